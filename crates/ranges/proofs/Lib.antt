@@ -1,0 +1,5 @@
+pub mod Fitting
+pub mod Hulls
+pub mod Lawfulness
+pub mod Leasts
+pub mod Growth

@@ -1,0 +1,12 @@
+pub mod Between
+pub mod Checks
+pub mod Runs
+pub mod Filling
+pub mod Goods
+pub mod Shapes
+pub mod Digits
+pub mod Written
+pub mod Encoded
+pub mod Given
+pub mod Complete
+pub mod Samples

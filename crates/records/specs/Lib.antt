@@ -1,0 +1,8 @@
+pub mod Numbers
+pub mod Places
+pub mod Reasons
+pub mod Faults
+pub mod Rules
+pub mod Entries
+pub mod Verdicts
+pub mod Encoding

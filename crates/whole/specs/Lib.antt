@@ -1,0 +1,4 @@
+pub mod Corners
+pub mod Laws
+pub mod Quotients
+pub mod Roots
