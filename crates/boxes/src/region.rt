@@ -1,4 +1,5 @@
 ghost use Prim.Native.Nat.{_≤_};
+ghost use lib.ListN.{length};
 use crate::side::Side;
 
 /// A box of settings: one side for each knob. Sides past the knobs say nothing.
@@ -8,4 +9,5 @@ pub struct Region {
     pub sides: [Side; 4],
     ghost some: { 1 ≤ knobs },
     ghost few: { knobs ≤ 4 },
+    ghost room: { knobs ≤ length sides },
 }

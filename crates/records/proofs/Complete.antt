@@ -1,15 +1,12 @@
 -- The record of a content that keeps every rule is accepted, and gives the content back.
 use mathlib.Core.Path.{_≡_, refl, sym, ap, _∙_, subst}
-use mathlib.Core.List.{List, [], _∷_, _++_, append-assoc, append-nil}
+use mathlib.Core.List.{List, [], _++_, append-nil}
 use mathlib.Core.Bool.{true, not}
-use Prim.Native.Nat.{ℕ, zero, suc, _+_, _*_, _<_, _≤_}
+use Prim.Native.Nat.{ℕ, _+_, _*_, _<_, _≤_}
 use native.Mathlib.Omega.{arith}
-use native.Mathlib.Nat.{mul-suc}
 use lib.Dec.{ltb, leb, eqb}
 use lib.IntN.{pos}
 use lib.ListN.{length, drop, getD, length-append}
-use Rattle.std.proofs.shelf.Counted.{fill-by-all}
-use Rattle.std.proofs.shelf.Lists.{drop-drop, drop-at}
 use Rattle.std.proofs.shelf.Tests.{not-from-true, le-ltb, lt-leb, eq-eqb, ne-eqb}
 use Rattle.std.specs.Joined.{joined}
 use Rattle.std.specs.declared.option.Option.{Option}
@@ -21,59 +18,20 @@ use Rattle.records.specs.declared.reason.Refusal.{Refusal}
 use Rattle.records.specs.declared.layout.Counts.{Counts}
 use Rattle.records.specs.declared.target.Target.{Target}
 use Rattle.records.specs.declared.instruction.Instruction.{Instruction}
-use Rattle.records.specs.declared.instruction.Instruction.the-variants.{Const, Knob, Add, Sub, Mul, Sqr, Min, Shr}
+use Rattle.records.specs.declared.instruction.Instruction.the-variants.{Const}
 use Rattle.records.specs.Numbers.{byte, nat16, nat32}
 use Rattle.records.specs.Places.{version-place, knobs-place, limit-place, sides-start, side-size, program-place, program-start, instruction-size, targets-place, targets-start, target-size}
-use Rattle.records.specs.Faults.{listed, unless}
+use Rattle.records.specs.Faults.{unless}
 use Rattle.records.specs.Rules.{Content, Keeps, good-instruction, good-target}
 use Rattle.records.specs.Entries.{side-faults, sides-from, instruction-faults, instructions-from, target-faults, targets-from}
-use Rattle.records.specs.Verdicts.{knobs-in, instructions-in, targets-in, counts-in, ends-at, head-fault, count-fault, size-fault, layout-fault, limit-fault, sides-fault, program-fault, targets-fault, field-fault, fault, sides-read, program-read, targets-read, content-in, verdict}
+use Rattle.records.specs.Layouts.{instructions-in, targets-in, counts-in, ends-at, head-fault, count-fault, size-fault, layout-fault}
+use Rattle.records.specs.Verdicts.{limit-fault, sides-fault, program-fault, targets-fault, field-fault, fault, sides-read, program-read, targets-read, content-in, verdict}
 use Rattle.records.specs.Encoding.{encode-side, encode-instruction, encode-target, table, tables, body, encode, Encoding-is-accepted}
 use Rattle.records.proofs.Digits.{join16, join32}
 use Rattle.records.proofs.Checks.{one-clean, both-none}
 use Rattle.records.proofs.Runs.{all-none, every-at}
 use Rattle.records.proofs.Given.{byte-there, side-given, instruction-given, target-given}
-
--- the items at each number make the list
-listed-is : {A : Type 0} (item : ℕ → A) (xs : List A) (d : A) → ((i : ℕ) → i < length xs → item i ≡ getD xs i d) → listed item (length xs) ≡ xs
-listed-is item xs d h = sym (fill-by-all item xs (length xs) d refl (λ i l. sym (h i l)))
-
--- where each entry of a table stands, and what follows the table
-module _ {A : Type 0} (f : A → List ℕ) (w : ℕ) (wide : (x : A) → length (f x) ≡ w) where
-  length-joined : (xs : List A) → length (joined f xs) ≡ w * length xs
-  length-joined [] = omega arith
-  length-joined (x ∷ xs) = omega (arith, length-append (f x) (joined f xs), wide x, length-joined xs, mul-suc w (length xs))
-
-  module _ (s : List ℕ) (r : List ℕ) where
-    past-one : (x : A) (xs : List A) (start : ℕ) → drop start s ≡ joined f (x ∷ xs) ++ r → drop (start + w) s ≡ joined f xs ++ r
-    past-one x xs start d =
-        sym (drop-drop w start s) ∙ (ap (drop w) (d ∙ append-assoc (f x) (joined f xs) r) ∙ drop-at (f x) (joined f xs ++ r) w (wide x))
-
-    item-there : (xs : List A) (d : A) (start : ℕ) → drop start s ≡ joined f xs ++ r → (i : ℕ) → i < length xs → (ys : List ℕ) × (drop (start + w * i) s ≡ f (getD xs i d) ++ ys)
-    item-there [] d start e i h = absurd (omega arith)
-    item-there (x ∷ xs) d start e zero h =
-        let q : start ≡ start + w * 0 = omega arith in
-        (joined f xs ++ r, subst (λ (j : ℕ). drop j s ≡ f x ++ (joined f xs ++ r)) q (e ∙ append-assoc (f x) (joined f xs) r))
-    item-there (x ∷ xs) d start e (suc i) h =
-        let q : start + w + w * i ≡ start + w * suc i = omega (arith, mul-suc w i) in
-        let t = item-there xs d (start + w) (past-one x xs start e) i (omega arith) in
-        (t .0, subst (λ (j : ℕ). drop j s ≡ f (getD xs i d) ++ t .0) q (t .1))
-
-    table-past : (xs : List A) (start : ℕ) → drop start s ≡ joined f xs ++ r → drop (start + w * length xs) s ≡ r
-    table-past xs start e = sym (drop-drop (w * length xs) start s) ∙ (ap (drop (w * length xs)) e ∙ drop-at (joined f xs) r (w * length xs) (length-joined xs))
-
-wide-instruction : (x : Instruction) → length (encode-instruction x) ≡ instruction-size
-wide-instruction (Const c) = refl
-wide-instruction (Knob a) = refl
-wide-instruction (Add a b) = refl
-wide-instruction (Sub a b) = refl
-wide-instruction (Mul a b) = refl
-wide-instruction (Sqr a) = refl
-wide-instruction (Min a b) = refl
-wide-instruction (Shr a b) = refl
-
-after-one : (s : List ℕ) (p x : ℕ) (ys : List ℕ) → drop p s ≡ x ∷ ys → drop (p + 1) s ≡ ys
-after-one s p x ys d = sym (drop-drop 1 p s) ∙ ap (drop 1) d
+use Rattle.records.proofs.Placed.{listed-is, length-joined, item-there, table-past, wide-instruction, after-one}
 
 count-clean : (s : List ℕ) (at most n : ℕ) → byte s at ≡ n → at < length s → 1 ≤ n → n ≤ most → count-fault s at most ≡ None
 count-clean s at most n e l h g =
@@ -156,7 +114,9 @@ module _ (c : Content) (g : Keeps c) where
       let t = item-there encode-side side-size (λ x. refl) (encode c) (tables c) (c .sides) nought sides-start refl i h in
       side-given (encode c) (sides-start + side-size * i) (t .0) (getD (c .sides) i nought) (every-at (λ _ x. good-side x) 0 (c .sides) nought (g .sided) i h) (t .1)
 
-  instruction-read : (i : ℕ) → i < registers → (instructions-from (encode c) (program-start knobs) i ≡ getD (c .program) i (Const (pos 0))) × (instruction-faults (encode c) knobs (program-start knobs) i ≡ None)
+  instruction-read : (i : ℕ) → i < registers
+      → (instructions-from (encode c) (program-start knobs) i ≡ getD (c .program) i (Const (pos 0)))
+      × (instruction-faults (encode c) knobs (program-start knobs) i ≡ None)
   instruction-read i h =
       let x = getD (c .program) i (Const (pos 0)) in
       let t = item-there encode-instruction instruction-size wide-instruction (encode c) _ (c .program) (Const (pos 0)) (program-start knobs) program-there i h in
@@ -164,10 +124,13 @@ module _ (c : Content) (g : Keeps c) where
       let e = every-at (good-instruction knobs) 0 (c .program) (Const (pos 0)) (g .programmed) i h in
       instruction-given (encode c) (program-start knobs + instruction-size * i) (t .0) knobs i x (subst (λ (j : ℕ). good-instruction knobs j x ≡ true) q e) (t .1)
 
-  target-read : (i : ℕ) → i < length (c .targets) → (targets-from (encode c) (targets-start knobs registers) i ≡ getD (c .targets) i no-target) × (target-faults (encode c) registers (targets-start knobs registers) i ≡ None)
+  target-read : (i : ℕ) → i < length (c .targets)
+      → (targets-from (encode c) (targets-start knobs registers) i ≡ getD (c .targets) i no-target)
+      × (target-faults (encode c) registers (targets-start knobs registers) i ≡ None)
   target-read i h =
       let t = item-there encode-target target-size (λ x. refl) (encode c) [] (c .targets) no-target (targets-start knobs registers) targets-there i h in
-      target-given (encode c) (targets-start knobs registers + target-size * i) (t .0) registers (getD (c .targets) i no-target) (every-at (λ _ x. good-target registers x) 0 (c .targets) no-target (g .aimed) i h) (t .1)
+      target-given (encode c) (targets-start knobs registers + target-size * i) (t .0) registers (getD (c .targets) i no-target)
+      (every-at (λ _ x. good-target registers x) 0 (c .targets) no-target (g .aimed) i h) (t .1)
 
   limit-read : nat16 (encode c) limit-place ≡ c .limit
   limit-read = join16 (c .limit)
@@ -186,7 +149,12 @@ module _ (c : Content) (g : Keeps c) where
 
   content-is : content-in (encode c) (counts-of c) ≡ c
   content-is =
-      same-content (nat16 (encode c) limit-place) (c .limit) (sides-read (encode c) (counts-of c)) (c .sides) (program-read (encode c) (counts-of c)) (c .program) (targets-read (encode c) (counts-of c)) (c .targets) limit-read
+      same-content
+      (nat16 (encode c) limit-place) (c .limit)
+      (sides-read (encode c) (counts-of c)) (c .sides)
+      (program-read (encode c) (counts-of c)) (c .program)
+      (targets-read (encode c) (counts-of c)) (c .targets)
+      limit-read
       (listed-is (sides-from (encode c) sides-start) (c .sides) nought (λ i h. side-read i h .0))
       (listed-is (instructions-from (encode c) (program-start knobs)) (c .program) (Const (pos 0)) (λ i h. instruction-read i h .0))
       (listed-is (targets-from (encode c) (targets-start knobs registers)) (c .targets) no-target (λ i h. target-read i h .0))

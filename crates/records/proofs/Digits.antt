@@ -1,6 +1,6 @@
 -- A number and its bytes: each made from the other, with and without a sign.
 use mathlib.Core.Path.{_≡_, sym, ap, _∙_}
-use mathlib.Core.List.{List, [], _∷_}
+use mathlib.Core.List.{[], _∷_}
 use mathlib.Core.Bool.{true}
 use Prim.Native.Nat.{ℕ, _+_, _*_, _/_, _%_, _^_, _<_}
 use native.Mathlib.Omega.{arith}
@@ -10,8 +10,8 @@ use mir.Syntax.{w16, w32}
 use mir.Val.{toZ, ofZ, SFits}
 use Rattle.std.proofs.shelf.Signed.{ints, ofZ-toZ}
 use Rattle.boxes.specs.Boxes.{between}
+use Rattle.boxes.proofs.Goods.{between-in}
 use Rattle.records.specs.Numbers.{bytes16, bytes32}
-use Rattle.records.proofs.Between.{between-in}
 
 -- the bytes of a number that is made of bytes are those
 pub split16 : (a b : ℕ) → a < 256 → b < 256 → bytes16 (a * 256 + b) ≡ a ∷ b ∷ []
@@ -44,7 +44,7 @@ fits32 x p q = search (arith, ints)
 
 -- four bytes whose number lies from 0 to 0 are 0
 only-zero : (c : ℤ) → between (negℤ (pos 0)) c (pos 0) ≡ true → c ≡ pos 0
-only-zero c e = let b = between-in (pos 0) c (pos 0) e in omega (arith, ints, b .0, b .1)
+only-zero c e = let b = between-in (pos 0) c (pos 0) e in omega (arith, ints, b .low, b .high)
 
 pub zero-bits : (n : ℕ) → n < 2 ^ 32 → between (negℤ (pos 0)) (toZ w32 n) (pos 0) ≡ true → n ≡ 0
 zero-bits n h e = sym (ofZ-toZ w32 n h) ∙ ap (ofZ w32) (only-zero (toZ w32 n) e)

@@ -10,7 +10,6 @@ use Rattle.std.proofs.shelf.Counted.{length-map-counting}
 use Rattle.std.proofs.shelf.Lists.{drop-all}
 use Rattle.std.proofs.shelf.Tests.{eqb-true, not-false}
 use Rattle.std.specs.Joined.{joined}
-use Rattle.std.specs.declared.option.Option.{Option}
 use Rattle.std.specs.declared.option.Option.the-variants.{None}
 use Rattle.std.specs.declared.result.Result.{Result}
 use Rattle.std.specs.declared.result.Result.the-variants.{Ok, Err}
@@ -22,7 +21,8 @@ use Rattle.records.specs.Places.{version-place, knobs-place, limit-place, side
 use Rattle.records.specs.Faults.{first, mapped}
 use Rattle.records.specs.Rules.{Content, Keeps}
 use Rattle.records.specs.Entries.{sides-from, instruction-faults, instructions-from, targets-from}
-use Rattle.records.specs.Verdicts.{knobs-in, instructions-in, targets-in, counts-in, ends-at, head-fault, layout-fault, limit-fault, sides-fault, program-fault, targets-fault, field-fault, fault, sides-read, program-read, targets-read, content-in, verdict, content, Shaped}
+use Rattle.records.specs.Layouts.{knobs-in, instructions-in, targets-in, counts-in, ends-at, head-fault, layout-fault, Shaped}
+use Rattle.records.specs.Verdicts.{limit-fault, sides-fault, program-fault, targets-fault, field-fault, fault, sides-read, program-read, targets-read, content-in, verdict, content}
 use Rattle.records.specs.Encoding.{encode-side, encode-instruction, encode-target, table, tables, body, encode, RecordOf, Accepted-is-encoding, Exact}
 use Rattle.records.proofs.Checks.{value-of, none-of, none-left, none-right, rest-unmet}
 use Rattle.records.proofs.Runs.{each-none}

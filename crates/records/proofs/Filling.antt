@@ -1,14 +1,13 @@
 -- A table that is filled item by item, up to the first with a fault.
-use mathlib.Core.Path.{_≡_, refl, sym, ap, _∙_, subst}
+use mathlib.Core.Path.{_≡_, sym, ap, _∙_, subst}
 use mathlib.Core.List.{List, _++_, [], _∷_}
-use Prim.Native.Nat.{ℕ, suc, _+_, _<_, _≤_}
+use Prim.Native.Nat.{ℕ, _+_, _<_, _≤_}
 use native.Mathlib.Omega.{arith}
 use native.Mathlib.Numerals.{add-one}
 use lib.ListN.{length, take, set, length-set}
 use Rattle.std.proofs.shelf.Lists.{take-more-set}
 use Rattle.std.specs.declared.option.Option.{Option}
 use Rattle.std.specs.declared.option.Option.the-variants.{None}
-use Rattle.std.specs.declared.result.Result.{Result}
 use Rattle.std.specs.declared.result.Result.the-variants.{Ok, Err}
 use Rattle.records.specs.declared.reason.Refusal.{Refusal}
 use Rattle.records.specs.Faults.{unless, firstOf, listed}
@@ -30,7 +29,11 @@ module _ {A : Type 0} (fault : ℕ → Option Refusal) (item : ℕ → A) (size 
       record {
         long = length-set xs k v ∙ g .long;
         clean = rw (add-one, g .clean) z;
-        front = take-more-set xs k v b ∙ (ap (λ (ys : List A). ys ++ (v ∷ [])) (g .front) ∙ (ap (λ (x : A). listed item k ++ (x ∷ [])) u ∙ (sym (listed-more item k) ∙ ap (listed item) (sym (add-one k)))));
+        front =
+            take-more-set xs k v b
+            ∙ (ap (λ (ys : List A). ys ++ (v ∷ [])) (g .front)
+            ∙ (ap (λ (x : A). listed item k ++ (x ∷ [])) u
+            ∙ (sym (listed-more item k) ∙ ap (listed item) (sym (add-one k)))));
       }
 
   pub filled-broke : (n : ℕ) (d : Refusal) → k < n → Err d ≡ unless (fault k) (item k) → Err d ≡ unless (firstOf fault n) (listed item n)

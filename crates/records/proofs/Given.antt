@@ -1,8 +1,8 @@
 -- The bytes of an entry that keeps its rule are read back as it, without a fault.
-use mathlib.Core.Path.{_≡_, refl, sym, ap, _∙_, subst}
+use mathlib.Core.Path.{_≡_, refl, sym, ap, _∙_}
 use mathlib.Core.List.{List, [], _∷_, _++_}
-use mathlib.Core.Bool.{Bool, true, false, not, _&&_}
-use Prim.Native.Nat.{ℕ, _+_, _*_, _<_, _≤_}
+use mathlib.Core.Bool.{true, not, _&&_}
+use Prim.Native.Nat.{ℕ, _+_, _≤_}
 use native.Mathlib.Omega.{arith}
 use lib.Dec.{ltb, leb}
 use lib.IntN.{ℤ, pos, negsuc, negℤ}
@@ -14,6 +14,7 @@ use Rattle.std.proofs.shelf.Signed.{ints, toZ-ofZ}
 use Rattle.std.proofs.shelf.Tests.{and-parts, not-from-true, ltb-true, le-ltb, lt-leb}
 use Rattle.std.specs.declared.option.Option.the-variants.{None}
 use Rattle.boxes.specs.Boxes.{Ends, between, good-side}
+use Rattle.boxes.proofs.Goods.{between-in, good-in}
 use Rattle.records.specs.declared.reason.Reason.the-variants.{BadInstruction, BadField}
 use Rattle.records.specs.declared.target.Target.{Target}
 use Rattle.records.specs.declared.instruction.Instruction.{Instruction}
@@ -23,7 +24,6 @@ use Rattle.records.specs.Faults.{when, first}
 use Rattle.records.specs.Rules.{bound, bounded, good-instruction, good-target}
 use Rattle.records.specs.Entries.{decoded, a-values, b-values, c-reach, reached, instruction-at, instruction-fault, side-at, side-fault, target-at, target-fault}
 use Rattle.records.specs.Encoding.{row, encode-side, encode-instruction, encode-target}
-use Rattle.records.proofs.Between.{between-in}
 use Rattle.records.proofs.Checks.{one-clean, two-clean}
 use Rattle.records.proofs.Goods.{Row}
 use Rattle.records.proofs.Digits.{fits16, fits32, join16, join32}
@@ -88,11 +88,9 @@ row-clean p code a b c knobs k n x y z en ex ey ez g =
 module _ (s : List ℕ) (p : ℕ) (r : List ℕ) where
   pub side-given : (x : Ends) → good-side x ≡ true → drop p s ≡ encode-side x ++ r → (side-at s p ≡ x) × (side-fault s p ≡ None)
   side-given x g d =
-      let b = and-parts (between (negsuc 16383) (x .lo) (pos 16383)) (between (x .lo) (x .hi) (pos 16383)) g in
-      let l = between-in (negsuc 16383) (x .lo) (pos 16383) (b .0) in
-      let h = between-in (x .lo) (x .hi) (pos 16383) (b .1) in
-      let lf = fits16 (x .lo) (l .0) (l .1) in
-      let hf = fits16 (x .hi) (omega (arith, ints, l .0, h .0)) (h .1) in
+      let o = good-in x g in
+      let lf = fits16 (x .lo) (o .above) (omega (arith, ints, o .order, o .below)) in
+      let hf = fits16 (x .hi) (omega (arith, ints, o .above, o .order)) (o .below) in
       side-clean p (int16 s p) (int16 s (p + 2)) x
       (ap (toZ w16) (nat16-there s p (encode-side x ++ r) d 0 p (omega arith) ∙ join16 (ofZ w16 (x .lo))) ∙ toZ-ofZ w16 (x .lo) lf)
       (ap (toZ w16) (nat16-there s p (encode-side x ++ r) d 2 (p + 2) refl ∙ join16 (ofZ w16 (x .hi))) ∙ toZ-ofZ w16 (x .hi) hf)
@@ -104,8 +102,8 @@ module _ (s : List ℕ) (p : ℕ) (r : List ℕ) where
       let b = and-parts (bounded (x .low)) (between (x .low) (x .high) (pos bound)) (a .1) in
       let l = between-in (negℤ (pos bound)) (x .low) (pos bound) (b .0) in
       let h = between-in (x .low) (x .high) (pos bound) (b .1) in
-      let lf = fits32 (x .low) (l .0) (l .1) in
-      let hf = fits32 (x .high) (omega (arith, ints, l .0, h .0)) (h .1) in
+      let lf = fits32 (x .low) (l .low) (l .high) in
+      let hf = fits32 (x .high) (omega (arith, ints, l .low, h .low)) (h .high) in
       target-clean registers p (byte s p) (int32 s (p + 1)) (int32 s (p + 5)) x
       (byte-there s p (encode-target x ++ r) d 0 p (omega arith))
       (ap (toZ w32) (nat32-there s p (encode-target x ++ r) d 1 (p + 1) refl ∙ join32 (ofZ w32 (x .low))) ∙ toZ-ofZ w32 (x .low) lf)
@@ -113,7 +111,8 @@ module _ (s : List ℕ) (p : ℕ) (r : List ℕ) where
       g
 
   module _ (knobs k : ℕ) where
-    row-given : (code a b n : ℕ) (c : ℤ) → toZ w32 n ≡ c → Row code a b c knobs k → drop p s ≡ row code a b n ++ r → (instruction-at s p ≡ decoded code a b c) × (instruction-fault s knobs k p ≡ None)
+    row-given : (code a b n : ℕ) (c : ℤ) → toZ w32 n ≡ c → Row code a b c knobs k → drop p s ≡ row code a b n ++ r
+        → (instruction-at s p ≡ decoded code a b c) × (instruction-fault s knobs k p ≡ None)
     row-given code a b n c e g d =
         let e0 : byte s p ≡ code = byte-there s p (row code a b n ++ r) d 0 p (omega arith) in
         let e1 : byte s (p + 1) ≡ a = byte-there s p (row code a b n ++ r) d 1 (p + 1) refl in
@@ -129,7 +128,7 @@ module _ (s : List ℕ) (p : ℕ) (r : List ℕ) where
     pub instruction-given : (x : Instruction) → good-instruction knobs k x ≡ true → drop p s ≡ encode-instruction x ++ r → (instruction-at s p ≡ x) × (instruction-fault s knobs k p ≡ None)
     instruction-given (Const c) g d =
         let l = between-in (negℤ (pos bound)) c (pos bound) g in
-        row-given 0 0 0 (ofZ w32 c) c (toZ-ofZ w32 c (fits32 c (l .0) (l .1))) (record { known = omega arith; first-operand = omega arith; second-operand = omega arith; number = g }) d
+        row-given 0 0 0 (ofZ w32 c) c (toZ-ofZ w32 c (fits32 c (l .low) (l .high))) (record { known = omega arith; first-operand = omega arith; second-operand = omega arith; number = g }) d
     instruction-given (Knob a) g d = row-given 1 a 0 0 (pos 0) refl (record { known = omega arith; first-operand = ltb-true a knobs g; second-operand = omega arith; number = refl }) d
     instruction-given (Add a b) g d = row-given 2 a b 0 (pos 0) refl (binary 2 a b (omega arith) refl refl refl g) d
     instruction-given (Sub a b) g d = row-given 3 a b 0 (pos 0) refl (binary 3 a b (omega arith) refl refl refl g) d

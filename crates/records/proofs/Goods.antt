@@ -1,5 +1,5 @@
 -- What was read without a fault keeps its rule: an entry, a table, the limit.
-use mathlib.Core.Path.{_≡_, sym, _∙_}
+use mathlib.Core.Path.{_≡_}
 use mathlib.Core.List.{List}
 use mathlib.Core.Bool.{true, not}
 use Prim.Native.Nat.{ℕ, zero, suc, _+_, _*_, _<_, _≤_}
@@ -17,7 +17,7 @@ use Rattle.records.specs.Numbers.{byte, nat16, int16, int32}
 use Rattle.records.specs.Places.{limit-place, side-size, instruction-size, target-size}
 use Rattle.records.specs.Faults.{firstOf, listed, unless}
 use Rattle.records.specs.Rules.{bound, bounded, good-instruction, good-target, good-sides, good-program, good-targets}
-use Rattle.records.specs.Entries.{decoded, a-values, b-values, c-reach, reached, instruction-at, instruction-fault, instruction-faults, instructions-from, side-at, side-fault, side-faults, sides-from, target-at, target-fault, target-faults, targets-from}
+use Rattle.records.specs.Entries.{decoded, a-values, b-values, reached, instruction-at, instruction-fault, instruction-faults, instructions-from, side-at, side-fault, side-faults, sides-from, target-at, target-fault, target-faults, targets-from}
 use Rattle.records.specs.Verdicts.{limit-fault}
 use Rattle.records.proofs.Checks.{value-of, none-of, rest-unmet, two-unmet}
 use Rattle.records.proofs.Runs.{every-listed}

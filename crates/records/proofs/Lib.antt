@@ -1,4 +1,4 @@
-pub mod Between
+-- The lemmas of the crate, by topic.
 pub mod Checks
 pub mod Runs
 pub mod Filling
@@ -8,5 +8,6 @@ pub mod Digits
 pub mod Written
 pub mod Encoded
 pub mod Given
+pub mod Placed
 pub mod Complete
 pub mod Samples

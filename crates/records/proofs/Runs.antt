@@ -1,9 +1,9 @@
 -- Items with numbers: the first fault of many, the list of many, and a test of each.
 use mathlib.Core.Path.{_≡_, refl, sym, ap, _∙_, subst}
 use mathlib.Core.List.{List, [], _∷_, _++_}
-use mathlib.Core.Bool.{Bool, true, _&&_}
-use mathlib.Core.Logic.{_⊎_, ⊎-elim}
-use Prim.Native.Nat.{ℕ, zero, suc, _+_, _<_, _≤_}
+use mathlib.Core.Bool.{Bool, true}
+use mathlib.Core.Logic.{⊎-elim}
+use Prim.Native.Nat.{ℕ, zero, suc, _+_, _<_}
 use native.Mathlib.Omega.{arith}
 use native.Mathlib.Nat.{add-zero, zero-add}
 use native.Mathlib.Numerals.{add-one}
@@ -52,7 +52,8 @@ every-more p k (y ∷ xs) x h e =
     and-from _ _ (b .0) (every-more p (k + 1) xs x (b .1) (rw q at e))
 
 -- items without a fault keep their rule
-pub every-listed : {A : Type 0} (fault : ℕ → Option Refusal) (item : ℕ → A) (p : ℕ → A → Bool) → ((k : ℕ) → fault k ≡ None → p k (item k) ≡ true) → (n : ℕ) → firstOf fault n ≡ None → every p 0 (listed item n) ≡ true
+pub every-listed : {A : Type 0} (fault : ℕ → Option Refusal) (item : ℕ → A) (p : ℕ → A → Bool)
+    → ((k : ℕ) → fault k ≡ None → p k (item k) ≡ true) → (n : ℕ) → firstOf fault n ≡ None → every p 0 (listed item n) ≡ true
 every-listed fault item p each zero e = refl
 every-listed {A} fault item p each (suc n) e =
     let q : 0 + length (listed item n) ≡ n = omega (arith, length-map-counting item 0 n) in

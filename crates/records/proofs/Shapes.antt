@@ -1,5 +1,5 @@
 -- The counts of a record without a fault in its layout lie within their limits, and its size is theirs.
-use mathlib.Core.Path.{_≡_, refl, sym, ap, _∙_, subst}
+use mathlib.Core.Path.{_≡_, sym, _∙_, subst}
 use mathlib.Core.List.{List}
 use Prim.Native.Nat.{ℕ, _≤_}
 use native.Mathlib.Omega.{arith}
@@ -16,7 +16,8 @@ use Rattle.records.specs.Numbers.{byte}
 use Rattle.records.specs.Places.{knobs-place, program-place, targets-place}
 use Rattle.records.specs.Rules.{Content}
 use Rattle.records.specs.Faults.{unless}
-use Rattle.records.specs.Verdicts.{knobs-in, instructions-in, targets-in, counts-in, ends-at, head-fault, count-fault, size-fault, layout-fault, field-fault, content-in, fault, verdict, Shaped}
+use Rattle.records.specs.Layouts.{knobs-in, instructions-in, counts-in, ends-at, head-fault, count-fault, size-fault, layout-fault, Shaped}
+use Rattle.records.specs.Verdicts.{field-fault, content-in, fault, verdict}
 use Rattle.records.proofs.Checks.{value-of, none-of, went, broke, none-left, none-right, rest-unmet}
 
 counted : (s : List ℕ) (at most : ℕ) → count-fault s at most ≡ None → (1 ≤ byte s at) × (byte s at ≤ most)

@@ -99,7 +99,8 @@ module _ (s : List ℕ) (b : Bytes s) where
       integer16 at (at + 2) refl (omega arith)
       ∙ ap (λ (x : List ℕ). signed16 (int16 s at) ++ x) (integer16 (at + 2) (at + 4) (omega arith) h)
 
-  pub instruction-back : (knobs k at : ℕ) → at + instruction-size ≤ length s → instruction-fault s knobs k at ≡ None → drop at s ≡ encode-instruction (instruction-at s at) ++ drop (at + instruction-size) s
+  pub instruction-back : (knobs k at : ℕ) → at + instruction-size ≤ length s → instruction-fault s knobs k at ≡ None
+      → drop at s ≡ encode-instruction (instruction-at s at) ++ drop (at + instruction-size) s
   instruction-back knobs k at h e =
       let f = row-back (byte s at) (byte s (at + 1)) (byte s (at + 2)) (nat32 s (at + 3)) knobs k (small32 (at + 3)) (row-kept s knobs k at e) in
       drop3 at (omega arith)

@@ -1,6 +1,6 @@
 -- How a job record is written, and the laws that tie writing to reading.
 use mathlib.Core.Path.{_≡_}
-use mathlib.Core.List.{List, [], _∷_, _++_}
+use mathlib.Core.List.{List, _∷_, _++_}
 use Prim.Native.Nat.{ℕ}
 use lib.ListN.{length}
 use mir.Syntax.{w32}

@@ -1,80 +1,26 @@
 -- What reading a record answers: its first fault in order, or what it says.
 use mathlib.Core.List.{List, [], _∷_}
-use mathlib.Core.Bool.{Bool, not}
-use mathlib.Core.Path.{_≡_}
-use Prim.Native.Nat.{ℕ, _+_, _≤_}
-use lib.Dec.{eqb, ltb, leb}
-use lib.ListN.{length, take}
+use Prim.Native.Nat.{ℕ}
+use lib.Dec.{eqb, ltb}
+use lib.ListN.{take}
 use Rattle.std.specs.declared.option.Option.{Option}
 use Rattle.std.specs.declared.result.Result.{Result}
 use Rattle.boxes.specs.Boxes.{Ends}
 use Rattle.boxes.specs.Views.{sides-of}
-use Rattle.records.specs.declared.reason.Reason.the-variants.{BadLength, BadVersion, BadShape, BadField}
+use Rattle.records.specs.declared.reason.Reason.the-variants.{BadField}
 use Rattle.records.specs.declared.reason.Refusal.{Refusal}
 use Rattle.records.specs.declared.instruction.Instruction.{Instruction}
 use Rattle.records.specs.declared.target.Target.{Target}
 use Rattle.records.specs.declared.fields.Fields.{Fields}
 use Rattle.records.specs.declared.layout.Counts.{Counts}
-use Rattle.records.specs.Numbers.{byte, nat16, nat32}
-use Rattle.records.specs.Places.{version-place, knobs-place, limit-place, sides-start, program-place, program-start, targets-place, targets-start, end-place}
+use Rattle.records.specs.Numbers.{nat16}
+use Rattle.records.specs.Places.{limit-place, sides-start, program-start, targets-start}
 use Rattle.records.specs.Rules.{Content}
 use Rattle.records.specs.Entries.{side-faults, sides-from, instruction-faults, instructions-from, target-faults, targets-from}
+use Rattle.records.specs.Layouts.{counts-in, layout-fault}
 use Rattle.records.specs.Faults.{when, orElse, first, firstOf, listed, unless}
 
--- how many knobs the record has
-abbrev pub knobs-in : List ℕ → ℕ
-knobs-in s = byte s knobs-place
-
--- how many instructions the record has
-abbrev pub instructions-in : List ℕ → ℕ
-instructions-in s = byte s (program-place (knobs-in s))
-
--- how many targets the record has
-abbrev pub targets-in : List ℕ → ℕ
-targets-in s = byte s (targets-place (knobs-in s) (instructions-in s))
-
--- the three counts of the record
-abbrev pub counts-in : List ℕ → Counts
-counts-in s = record { knobs = knobs-in s; instructions = instructions-in s; targets = targets-in s }
-
--- where a record with these counts ends
-abbrev pub ends-at : Counts → ℕ
-ends-at q = end-place (q .knobs) (q .instructions) (q .targets)
-
--- the length field is there and counts what follows it, and the version is 1
-abbrev pub head-fault : List ℕ → Option Refusal
-head-fault s =
-    first (when (ltb (length s) 5) BadLength (length s)
-    ∷ when (not (eqb (nat32 s 0 + 4) (length s))) BadLength 0
-    ∷ when (not (eqb (byte s version-place) 1)) BadVersion version-place
-    ∷ [])
-
--- a count lies from 1 to `most`, in a byte that the record has
-abbrev pub count-fault : List ℕ → ℕ → ℕ → Option Refusal
-count-fault s at most =
-    first (when (leb (length s) at) BadShape (length s)
-    ∷ when (eqb (byte s at) 0) BadShape at
-    ∷ when (ltb most (byte s at)) BadShape at
-    ∷ [])
-
--- the record ends where it should
-abbrev pub size-fault : List ℕ → ℕ → Option Refusal
-size-fault s end =
-    first (when (ltb (length s) end) BadShape (length s)
-    ∷ when (ltb end (length s)) BadShape end
-    ∷ [])
-
--- what is wrong with the head, the counts or the size of the record
-abbrev pub layout-fault : List ℕ → Option Refusal
-layout-fault s =
-    first (head-fault s
-    ∷ count-fault s knobs-place 4
-    ∷ count-fault s (program-place (knobs-in s)) 64
-    ∷ count-fault s (targets-place (knobs-in s) (instructions-in s)) 8
-    ∷ size-fault s (ends-at (counts-in s))
-    ∷ [])
-
--- the limit lies from 1 to 32,768
+-- what is wrong with the limit: it lies from 1 to 32,768
 abbrev pub limit-fault : List ℕ → Option Refusal
 limit-fault s =
     first (when (eqb (nat16 s limit-place) 0) BadField limit-place
@@ -134,13 +80,3 @@ content f = record {
   program = take (f .registers) (f .program);
   targets = take (f .goals) (f .targets);
 }
-
--- the counts lie within their limits, and ask for a record of this size
-pub record Shaped (q : Counts) (size : ℕ) : Type 0 where
-  pub some-knobs : 1 ≤ q .knobs
-  pub few-knobs : q .knobs ≤ 4
-  pub some-instructions : 1 ≤ q .instructions
-  pub few-instructions : q .instructions ≤ 64
-  pub some-targets : 1 ≤ q .targets
-  pub few-targets : q .targets ≤ 8
-  pub ends : ends-at q ≡ size

@@ -1,7 +1,7 @@
 ghost use mathlib.Core.Path.{_≡_};
 ghost use mathlib.Core.Bool.{true};
-ghost use Prim.Native.Nat.{ℕ, _≤_};
-ghost use lib.ListN.{take};
+ghost use Prim.Native.Nat.{_≤_};
+ghost use lib.ListN.{length, take};
 ghost use Rattle.records.specs.Rules.{good-program, good-targets};
 use crate::instruction::Instruction;
 use crate::target::Target;
@@ -21,8 +21,10 @@ pub struct Fields {
     ghost limited: { limit ≤ 32768 },
     ghost working: { 1 ≤ registers },
     ghost short: { registers ≤ 64 },
+    ghost room: { registers ≤ length program },
     ghost aiming: { 1 ≤ goals },
     ghost few: { goals ≤ 8 },
+    ghost space: { goals ≤ length targets },
     ghost programmed: { good-program (start .knobs) (take registers program) ≡ true },
     ghost aimed: { good-targets registers (take goals targets) ≡ true },
 }

@@ -1,5 +1,5 @@
 ghost use mathlib.Core.Path.{_≡_};
-ghost use Prim.Native.Nat.{ℕ, _+_, _≤_};
+ghost use Prim.Native.Nat.{_+_, _≤_};
 ghost use lib.ListN.{length};
 ghost use lib.IntN.{pos};
 ghost use Rattle.boxes.specs.Boxes.{between};
@@ -72,29 +72,17 @@ pub(crate) fn read_instruction(
     let b = bytes[at + 2];
     let c = read_i32(bytes, at + 3);
     if code > 7 {
-        return Err(Refusal {
-            reason: Reason::BadInstruction,
-            place: at,
-        });
+        return Err(Refusal::new(Reason::BadInstruction, at));
     }
     if values_of_a(code, knobs, k) <= a as usize {
-        return Err(Refusal {
-            reason: Reason::BadInstruction,
-            place: at + 1,
-        });
+        return Err(Refusal::new(Reason::BadInstruction, at + 1));
     }
     if values_of_b(code, k) <= b as usize {
-        return Err(Refusal {
-            reason: Reason::BadInstruction,
-            place: at + 2,
-        });
+        return Err(Refusal::new(Reason::BadInstruction, at + 2));
     }
     let reach = reach_of_c(code);
     if !lies(-reach, c, reach) {
-        return Err(Refusal {
-            reason: Reason::BadInstruction,
-            place: at + 3,
-        });
+        return Err(Refusal::new(Reason::BadInstruction, at + 3));
     }
     Ok(decode(code, a, b, c))
 }
@@ -107,16 +95,10 @@ pub(crate) fn read_side(bytes: &[u8], at: usize) -> Result<Side, Refusal>
     let low = read_i16(bytes, at);
     let high = read_i16(bytes, at + 2);
     if !lies(-16_384, low, 16_383) {
-        return Err(Refusal {
-            reason: Reason::BadField,
-            place: at,
-        });
+        return Err(Refusal::new(Reason::BadField, at));
     }
     if !lies(low, high, 16_383) {
-        return Err(Refusal {
-            reason: Reason::BadField,
-            place: at + 2,
-        });
+        return Err(Refusal::new(Reason::BadField, at + 2));
     }
     Ok(Side { low, high })
 }
@@ -130,22 +112,13 @@ pub(crate) fn read_target(bytes: &[u8], registers: usize, at: usize) -> Result<T
     let low = read_i32(bytes, at + 1);
     let high = read_i32(bytes, at + 5);
     if registers <= register as usize {
-        return Err(Refusal {
-            reason: Reason::BadField,
-            place: at,
-        });
+        return Err(Refusal::new(Reason::BadField, at));
     }
     if !lies(-BOUND, low, BOUND) {
-        return Err(Refusal {
-            reason: Reason::BadField,
-            place: at + 1,
-        });
+        return Err(Refusal::new(Reason::BadField, at + 1));
     }
     if !lies(low, high, BOUND) {
-        return Err(Refusal {
-            reason: Reason::BadField,
-            place: at + 5,
-        });
+        return Err(Refusal::new(Reason::BadField, at + 5));
     }
     Ok(Target {
         register,

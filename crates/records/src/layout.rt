@@ -1,10 +1,10 @@
 ghost use mathlib.Core.Path.{_≡_};
-ghost use Prim.Native.Nat.{ℕ, _+_, _≤_};
+ghost use Prim.Native.Nat.{_+_, _≤_};
 ghost use lib.ListN.{length};
 ghost use Rattle.std.specs.Vec.{made};
 ghost use Rattle.records.specs.Numbers.{byte};
 ghost use Rattle.records.specs.Faults.{unless, passed};
-ghost use Rattle.records.specs.Verdicts.{count-fault, head-fault, size-fault, layout-fault, counts-in};
+ghost use Rattle.records.specs.Layouts.{count-fault, head-fault, size-fault, layout-fault, counts-in};
 use crate::bytes::read_u32;
 use crate::places::KNOBS_PLACE;
 use crate::places::VERSION_PLACE;
@@ -28,17 +28,11 @@ fn count_at(bytes: &[u8], at: usize, most: u8) -> Result<usize, Refusal>
     ensures few { λ r. ⌜ made r (λ n. n ≤ most) ⌝ }
 {
     if bytes.len() <= at {
-        return Err(Refusal {
-            reason: Reason::BadShape,
-            place: bytes.len(),
-        });
+        return Err(Refusal::new(Reason::BadShape, bytes.len()));
     }
     let count = bytes[at];
     if count == 0 || count > most {
-        return Err(Refusal {
-            reason: Reason::BadShape,
-            place: at,
-        });
+        return Err(Refusal::new(Reason::BadShape, at));
     }
     Ok(count as usize)
 }
@@ -48,22 +42,13 @@ fn head(bytes: &[u8]) -> Result<(), Refusal>
     ensures { λ r. ⌜ r ≡ passed (head-fault (now (bytes .entry))) ⌝ }
 {
     if bytes.len() < 5 {
-        return Err(Refusal {
-            reason: Reason::BadLength,
-            place: bytes.len(),
-        });
+        return Err(Refusal::new(Reason::BadLength, bytes.len()));
     }
     if read_u32(bytes, 0) as usize + 4 != bytes.len() {
-        return Err(Refusal {
-            reason: Reason::BadLength,
-            place: 0,
-        });
+        return Err(Refusal::new(Reason::BadLength, 0));
     }
     if bytes[VERSION_PLACE] != 1 {
-        return Err(Refusal {
-            reason: Reason::BadVersion,
-            place: VERSION_PLACE,
-        });
+        return Err(Refusal::new(Reason::BadVersion, VERSION_PLACE));
     }
     Ok(())
 }
@@ -73,16 +58,10 @@ fn size(bytes: &[u8], end: usize) -> Result<(), Refusal>
     ensures { λ r. ⌜ r ≡ passed (size-fault (now (bytes .entry)) end) ⌝ }
 {
     if bytes.len() < end {
-        return Err(Refusal {
-            reason: Reason::BadShape,
-            place: bytes.len(),
-        });
+        return Err(Refusal::new(Reason::BadShape, bytes.len()));
     }
     if bytes.len() > end {
-        return Err(Refusal {
-            reason: Reason::BadShape,
-            place: end,
-        });
+        return Err(Refusal::new(Reason::BadShape, end));
     }
     Ok(())
 }

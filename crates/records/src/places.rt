@@ -1,5 +1,5 @@
 ghost use mathlib.Core.Path.{_≡_};
-ghost use Prim.Native.Nat.{ℕ, _≤_};
+ghost use Prim.Native.Nat.{_≤_};
 ghost use Rattle.records.specs.Places.{program-place, program-start, targets-place, targets-start, end-place};
 
 /// How many bytes a side, an instruction and a target take.

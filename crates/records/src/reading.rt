@@ -1,10 +1,11 @@
 ghost use mathlib.Core.Path.{_≡_};
-ghost use Prim.Native.Nat.{ℕ, _≤_};
+ghost use Prim.Native.Nat.{_≤_};
 ghost use lib.ListN.{length};
 ghost use Rattle.records.specs.Numbers.{nat16};
 ghost use Rattle.records.specs.Places.{limit-place};
 ghost use Rattle.records.specs.Faults.{unless, mapped};
-ghost use Rattle.records.specs.Verdicts.{limit-fault, field-fault, content-in, Shaped, content, verdict};
+ghost use Rattle.records.specs.Layouts.{Shaped};
+ghost use Rattle.records.specs.Verdicts.{limit-fault, field-fault, content-in, content, verdict};
 ghost use Rattle.records.specs.Encoding.{Exact};
 use crate::bytes::read_u16;
 use crate::fields::Fields;
@@ -28,10 +29,7 @@ fn read_limit(bytes: &[u8]) -> Result<u16, Refusal>
 {
     let limit = read_u16(bytes, LIMIT_PLACE);
     if limit == 0 || limit > 32_768 {
-        return Err(Refusal {
-            reason: Reason::BadField,
-            place: LIMIT_PLACE,
-        });
+        return Err(Refusal::new(Reason::BadField, LIMIT_PLACE));
     }
     Ok(limit)
 }

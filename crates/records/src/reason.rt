@@ -25,6 +25,15 @@ pub struct Refusal {
     pub place: usize,
 }
 
+impl Refusal {
+    /// The refusal for this reason at this place.
+    pub fn new(reason: Reason, place: usize) -> Refusal
+        ensures { λ r. ⌜ r ≡ record { reason = reason; place = place } ⌝ }
+    {
+        Refusal { reason, place }
+    }
+}
+
 impl Reason {
     /// The reason's number.
     pub fn number(&self) -> u32

@@ -66,11 +66,11 @@ pub fn divide_up(n: i32, d: i32) -> i64
     ensures value { λ r. ⌜ r ≡ ceiling n d ⌝ }
     ensures rounded { λ r. ⌜ RoundedUp n d r ⌝ }
 {
-    let (n, d) = (n as i64, d as i64);
-    if d < 0 {
-        n.div_euclid(d)
+    let (top, by) = (n as i64, d as i64);
+    if by < 0 {
+        top.div_euclid(by)
     } else {
-        (-n).div_euclid(-d)
+        (-top).div_euclid(-by)
     }
 }
 

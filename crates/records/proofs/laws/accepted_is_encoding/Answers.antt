@@ -1,3 +1,4 @@
+-- The law, from its proof.
 use Rattle.records.proofs.Encoded as encoded
 use Rattle.records.proofs.laws.accepted_is_encoding.Needs as need
 

@@ -1,3 +1,4 @@
+-- The law, from its proof.
 use Rattle.records.proofs.Complete as complete
 use Rattle.records.proofs.laws.encoding_is_accepted.Needs as need
 

@@ -1,3 +1,4 @@
+-- One instruction more fills the table by one, or its fault is the first.
 use borrow.Author.Needs.{needs}
 use mathlib.Core.Path.{refl}
 use Rattle.std.proofs.shelf.Results.{err-from-errBy}

@@ -1,3 +1,4 @@
+-- After k turns the first k instructions are read, and none has a fault.
 use Rattle.records.specs.Entries.{instruction-faults, instructions-from}
 use Rattle.records.proofs.Filling.{Filled}
 use Rattle.records.proofs.tables.read_instructions.Given as given

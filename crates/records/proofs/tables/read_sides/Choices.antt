@@ -1,3 +1,4 @@
+-- After k turns the first k sides are read, and none has a fault.
 use mathlib.Core.List.{map}
 use Rattle.boxes.specs.Views.{ends-of}
 use Rattle.records.specs.Entries.{side-faults, sides-from}

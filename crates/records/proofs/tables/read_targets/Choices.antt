@@ -1,3 +1,4 @@
+-- After k turns the first k targets are read, and none has a fault.
 use Rattle.records.specs.Entries.{target-faults, targets-from}
 use Rattle.records.proofs.Filling.{Filled}
 use Rattle.records.proofs.tables.read_targets.Given as given

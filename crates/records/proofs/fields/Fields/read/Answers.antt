@@ -1,3 +1,4 @@
+-- The verdict is the layout's and then the fields'; an accepted record is the encoding of what was read.
 use native.Mathlib.Omega.{arith}
 use Rattle.std.proofs.shelf.Results.{err-from-errBy}
 use Rattle.records.proofs.Shapes.{no-layout, shaped-counts, whole}

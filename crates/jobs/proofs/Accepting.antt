@@ -1,0 +1,86 @@
+-- Reading a job: from the verdict on its fields to the verdict on the whole.
+use Prim.Native.Nat.{ℕ, _<_, _≤_}
+use native.Mathlib.Omega.{arith}
+use mathlib.Core.Path.{_≡_, refl, sym, ap, subst, _∙_}
+use mathlib.Core.Logic.{⊎-elim}
+use mathlib.Core.List.{List}
+use lib.Dec.{ltb}
+use lib.ListN.{length}
+use Rattle.std.proofs.shelf.Tests.{cases-lt, le-ltb, lt-ltb}
+use Rattle.std.specs.declared.option.Option.{Option}
+use Rattle.std.specs.declared.option.Option.the-variants.{Some, None}
+use Rattle.std.specs.declared.result.Result.the-variants.{Ok, Err}
+use Rattle.ranges.specs.Plains.{plain-kind}
+use Rattle.records.specs.declared.reason.Reason.the-variants.{TooLarge}
+use Rattle.records.specs.declared.reason.Refusal.{Refusal}
+use Rattle.records.specs.Encoding.{encode}
+use Rattle.records.specs.Faults.{unless}
+use Rattle.records.specs.Layouts.{counts-in}
+use Rattle.records.specs.Numbers.{Bytes}
+use Rattle.records.specs.Rules.{Content}
+use Rattle.records.specs.Verdicts.{content-in, fault}
+use Rattle.records.specs.Verdicts.{verdict as fields-verdict}
+use Rattle.records.proofs.Checks.{broke, none-left, none-of, none-right, value-of, went}
+use Rattle.records.proofs.Complete.{encoding-is-accepted}
+use Rattle.records.proofs.Encoded.{accepted-is-encoding}
+use Rattle.jobs.specs.Reading.{Accepted-is-record, Record-is-accepted, RecordOf, Sound, held, job-fault, large-fault, verdict}
+use Rattle.jobs.specs.Registers.{gives}
+use Rattle.jobs.proofs.Fills.{fill-upto}
+
+-- a job with a register that is too large has that fault, and others have none
+large-is : (c : Content) → held c < length (c .program) → large-fault c ≡ Some (record { reason = TooLarge; place = held c })
+large-is c h = rw (lt-ltb (held c) (length (c .program)) h)
+
+large-none : (c : Content) → length (c .program) ≤ held c → large-fault c ≡ None
+large-none c h = rw (le-ltb (held c) (length (c .program)) h)
+
+all-held : (c : Content) → large-fault c ≡ None → held c ≡ length (c .program)
+all-held c e = ⊎-elim
+    (λ (h : held c < length (c .program)). let t = large-is c h in let z : _≡_ {A = ℕ} 0 1 = cc in absurd (omega arith))
+    (λ (h : length (c .program) ≤ held c). let u = fill-upto (gives plain-kind (c .sides)) (c .program) in omega arith)
+    (cases-lt (held c) (length (c .program)))
+
+-- fields that are refused are refused
+pub fields-refused : (s : List ℕ) (d : Refusal) → Err d ≡ fields-verdict s → Err d ≡ verdict s
+fields-refused s d e = broke (fault s) (large-fault (content-in s (counts-in s))) (content-in s (counts-in s)) d (content-in s (counts-in s)) e
+
+-- fields that are accepted are judged by their registers
+module _ (s : List ℕ) (c : Content) (e : Ok c ≡ fields-verdict s) where
+  is-content : c ≡ content-in s (counts-in s)
+  is-content = value-of (fault s) (content-in s (counts-in s)) c e
+
+  judged : verdict s ≡ unless (large-fault c) c
+  judged =
+      went (fault s) (large-fault (content-in s (counts-in s))) (content-in s (counts-in s)) c (content-in s (counts-in s)) e
+      ∙ ap (λ x. unless (large-fault x) x) (sym is-content)
+
+  pub too-large : held c < length (c .program) → Err (record { reason = TooLarge; place = held c }) ≡ verdict s
+  too-large h = sym (judged ∙ ap (λ o. unless o c) (large-is c h))
+
+  pub all-within : length (c .program) ≤ held c → Ok c ≡ verdict s
+  all-within h = sym (judged ∙ ap (λ o. unless o c) (large-none c h))
+
+pub accepted-is-record : Accepted-is-record
+accepted-is-record s c b e =
+    let x = content-in s (counts-in s) in
+    let n = none-of (job-fault s) x c (sym e) in
+    let v = value-of (job-fault s) x c (sym e) in
+    let f = none-left (fault s) (large-fault x) n in
+    let l = none-right (fault s) (large-fault x) n in
+    let t : fields-verdict s ≡ Ok c = ap (λ o. unless o x) f ∙ ap Ok (sym v) in
+    let r = accepted-is-encoding s c b t in
+    record { written = r .written; sound = record { fields = r .kept; bounded = all-held c (subst (λ y. large-fault y ≡ None) (sym v) l) } }
+
+pub record-is-accepted : Record-is-accepted
+record-is-accepted c g =
+    let e = sym (encoding-is-accepted c (g .fields)) in
+    let b = g .bounded in
+    sym (all-within (encode c) c e (omega arith))
+
+-- what is refused is the record of no job
+pub no-record : (s : List ℕ) (d : Refusal) → Err d ≡ verdict s → (c : Content) → RecordOf c s → ⊥
+no-record s d e c r =
+    let t = ap verdict (r .written) in
+    let a = record-is-accepted c (r .sound) in
+    let z : _≡_ {A = ℕ} 0 1 = cc in
+    omega arith

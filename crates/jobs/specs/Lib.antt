@@ -1,0 +1,3 @@
+pub mod Registers
+pub mod Meaning
+pub mod Reading

@@ -1,0 +1,65 @@
+-- What reading a job record answers, the too large register last, and what that says of the record.
+use mathlib.Core.Path.{_≡_}
+use mathlib.Core.List.{List}
+use Prim.Native.Nat.{ℕ}
+use lib.Dec.{ltb}
+use lib.ListN.{length}
+use Rattle.std.specs.declared.option.Option.{Option}
+use Rattle.std.specs.declared.result.Result.{Result}
+use Rattle.std.specs.declared.result.Result.the-variants.{Ok, Err}
+use Rattle.ranges.specs.Plains.{plain-kind}
+use Rattle.records.specs.declared.reason.Reason.the-variants.{TooLarge}
+use Rattle.records.specs.declared.reason.Refusal.{Refusal}
+use Rattle.records.specs.Encoding.{encode}
+use Rattle.records.specs.Faults.{orElse, unless, when}
+use Rattle.records.specs.Numbers.{Bytes}
+use Rattle.records.specs.Rules.{Content, Keeps}
+use Rattle.records.specs.Layouts.{counts-in}
+use Rattle.records.specs.Verdicts.{content, content-in, fault}
+use Rattle.jobs.specs.declared.job.Job.{Job}
+use Rattle.jobs.specs.Meaning.{Tame}
+use Rattle.jobs.specs.Registers.{registers}
+
+-- what a job says
+abbrev pub content-of : Job → Content
+content-of j = content (j .fields)
+
+-- how many registers, from the first, have a plain range over the start box within the bound
+abbrev pub held : Content → ℕ
+held c = length (registers plain-kind (c .program) (c .sides))
+
+-- the first register, if any, whose plain range over the start box leaves the bound; its place is its number
+abbrev pub large-fault : Content → Option Refusal
+large-fault c = when (ltb (held c) (length (c .program))) TooLarge (held c)
+
+-- why a record is refused: the first fault of its fields, or else a register that is too large
+abbrev pub job-fault : List ℕ → Option Refusal
+job-fault s = orElse (fault s) (large-fault (content-in s (counts-in s)))
+
+-- what reading a record answers, for every byte string
+abbrev pub verdict : List ℕ → Result Content Refusal
+verdict s = unless (job-fault s) (content-in s (counts-in s))
+
+-- what a job says keeps every rule: those of its fields, and that no register is too large over the start box
+pub record Sound (c : Content) : Type 0 where
+  pub fields : Keeps c
+  pub bounded : held c ≡ length (c .program)
+
+-- the byte string is the record of this job, which keeps every rule
+pub record RecordOf (c : Content) (s : List ℕ) : Type 0 where
+  pub written : encode c ≡ s
+  pub sound : Sound c
+
+-- a byte string that is accepted is the record of what was read
+abbrev pub Accepted-is-record : Type 0
+Accepted-is-record = (s : List ℕ) (c : Content) → Bytes s → verdict s ≡ Ok c → RecordOf c s
+
+-- the record of a job that keeps every rule is accepted, and gives the job back
+abbrev pub Record-is-accepted : Type 0
+Record-is-accepted = (c : Content) → Sound c → verdict (encode c) ≡ Ok c
+
+-- a job that was read is the one whose record this is, and no register of it leaves the bound at a setting of the start box;
+-- what is refused is the record of no job
+abbrev pub Exact : List ℕ → Result Job Refusal → Type 0
+Exact s (Ok j) = RecordOf (content-of j) s × Tame (content-of j)
+Exact s (Err d) = (c : Content) → RecordOf c s → ⊥

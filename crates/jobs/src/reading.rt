@@ -1,0 +1,34 @@
+ghost use mathlib.Core.Path.{_≡_};
+ghost use Rattle.records.specs.Faults.{mapped};
+ghost use Rattle.jobs.specs.Reading.{Exact, content-of, verdict};
+use crate::job::Job;
+use crate::registers::evaluate;
+use ranges::plain::Plain;
+use ranges::plain_range::PlainRange;
+use ranges::row::Row;
+use records::fields::Fields;
+use records::reason::Reason;
+use records::reason::Refusal;
+
+impl Job {
+    /// The job of a record, or why the record is refused, and where.
+    pub fn read(bytes: &[u8]) -> Result<Job, Refusal>
+        ensures told { λ r. ⌜ mapped content-of r ≡ verdict (now (bytes .entry)) ⌝ }
+        ensures exact { λ r. ⌜ Exact (now (bytes .entry)) r ⌝ }
+    {
+        let fields = Fields::read(bytes)?;
+        let mut rows = [Row {
+            low: 0,
+            high: 0,
+            step: 0,
+        }; 64];
+        let filled = evaluate::<Plain>(&fields, &fields.start, &mut rows);
+        if filled < fields.registers {
+            return Err(Refusal {
+                reason: Reason::TooLarge,
+                place: filled,
+            });
+        }
+        Ok(Job { fields })
+    }
+}
