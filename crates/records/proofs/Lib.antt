@@ -10,4 +10,3 @@ pub mod Encoded
 pub mod Given
 pub mod Placed
 pub mod Complete
-pub mod Samples
