@@ -46,7 +46,7 @@ fields-refused s d e = broke (fault s) (large-fault (content-in s (counts-in s))
 
 -- fields that are accepted are judged by their registers
 module _ (s : List ℕ) (c : Content) (e : Ok c ≡ fields-verdict s) where
-  is-content : c ≡ content-in s (counts-in s)
+  pub is-content : c ≡ content-in s (counts-in s)
   is-content = value-of (fault s) (content-in s (counts-in s)) c e
 
   judged : verdict s ≡ unless (large-fault c) c

@@ -15,11 +15,11 @@ use Rattle.whole.specs.Laws.{Amid}
 use Rattle.boxes.specs.Boxes.{Ends, In, nought}
 use Rattle.ranges.specs.declared.row.Row.{Row}
 use Rattle.ranges.specs.Bounds.{Bounded, Ordered, point}
-use Rattle.ranges.specs.Hulls.{ends-add, ends-sub, ends-mul, ends-sqr, ends-min, ends-shr, shifted, square}
+use Rattle.ranges.specs.Hulls.{shifted, square}
 use Rattle.ranges.specs.Kind.{Kind, Lawful, Valid, Holds, ends, Answer, Answered, Of-one, Of-two, Spans, Constant}
 use Rattle.records.specs.declared.instruction.Instruction.{Instruction}
 use Rattle.records.specs.declared.instruction.Instruction.the-variants.{Const, Knob, Add, Sub, Mul, Sqr, Min, Shr}
-use Rattle.jobs.specs.Registers.{Before, Wired, first, gives, no-row, registers, value, values}
+use Rattle.jobs.specs.Registers.{Before, Wired, expected, first, gives, no-row, registers, value, values}
 use Rattle.jobs.specs.Meaning.{knob-at}
 use Rattle.jobs.proofs.Fills.{fill-at, fill-upto}
 use Rattle.jobs.proofs.Values.{by-those-below, values-at}
@@ -27,17 +27,6 @@ use Rattle.jobs.proofs.Values.{by-those-below, values-at}
 -- each side of the box is in order and within the bound
 abbrev pub Sided : List Ends → Type 0
 Sided box = (n : ℕ) → n < length box → Ordered (getD box n nought)
-
--- the plain answer of an instruction
-abbrev pub expected : List Ends → Instruction → List Row → Ends
-expected box (Const c) qs = point c
-expected box (Knob n) qs = getD box n nought
-expected box (Add a b) qs = ends-add (ends (getD qs a no-row)) (ends (getD qs b no-row))
-expected box (Sub a b) qs = ends-sub (ends (getD qs a no-row)) (ends (getD qs b no-row))
-expected box (Mul a b) qs = ends-mul (ends (getD qs a no-row)) (ends (getD qs b no-row))
-expected box (Sqr a) qs = ends-sqr (ends (getD qs a no-row))
-expected box (Min a b) qs = ends-min (ends (getD qs a no-row)) (ends (getD qs b no-row))
-expected box (Shr a b) qs = ends-shr b (ends (getD qs a no-row))
 
 -- the results of an instruction from held operands
 abbrev pub Results : Kind → List Ends → Instruction → List Row → ℤ → Type 0

@@ -5,3 +5,4 @@ pub mod Values
 pub mod Holding
 pub mod Accepting
 pub mod Taming
+pub mod Telling

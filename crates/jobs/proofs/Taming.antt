@@ -20,7 +20,7 @@ use Rattle.jobs.proofs.Holding.{Sided, reg-holds, reg-valid}
 use Rattle.jobs.proofs.Wiring.{wired}
 
 -- a knob's sides are in order and within the bound
-sided : (c : Content) → Keeps c → Sided (c .sides)
+pub sided : (c : Content) → Keeps c → Sided (c .sides)
 sided c g n h =
     let k = good-in (getD (c .sides) n nought) (every-at (λ _ x. good-side x) 0 (c .sides) nought (g .sided) n h) in
     record { above = omega (arith, ints); order = k .order; below = omega (arith, ints) }

@@ -9,8 +9,9 @@ use Rattle.std.specs.declared.option.Option.{Option}
 use Rattle.std.specs.declared.option.Option.the-variants.{Some, None}
 use Rattle.boxes.specs.Boxes.{Ends, nought}
 use Rattle.ranges.specs.declared.row.Row.{Row}
-use Rattle.ranges.specs.Hulls.{shifted, square}
-use Rattle.ranges.specs.Kind.{Kind, Valid}
+use Rattle.ranges.specs.Bounds.{point}
+use Rattle.ranges.specs.Hulls.{ends-add, ends-sub, ends-mul, ends-sqr, ends-min, ends-shr, shifted, square}
+use Rattle.ranges.specs.Kind.{Kind, Valid, ends}
 use Rattle.records.specs.declared.fields.Fields.{Fields}
 use Rattle.records.specs.declared.instruction.Instruction.{Instruction}
 use Rattle.records.specs.declared.instruction.Instruction.the-variants.{Const, Knob, Add, Sub, Mul, Sqr, Min, Shr}
@@ -61,6 +62,17 @@ gives k box (Shr a b) qs = k .shift b (getD qs a no-row)
 -- the rows of the registers over a box, up to the first that is too large
 abbrev pub registers : Kind → List Instruction → List Ends → List Row
 registers k program box = fill (gives k box) program []
+
+-- the plain answer of one instruction over a box, by the ends of the rows before it
+abbrev pub expected : List Ends → Instruction → List Row → Ends
+expected box (Const c) qs = point c
+expected box (Knob n) qs = getD box n nought
+expected box (Add a b) qs = ends-add (ends (getD qs a no-row)) (ends (getD qs b no-row))
+expected box (Sub a b) qs = ends-sub (ends (getD qs a no-row)) (ends (getD qs b no-row))
+expected box (Mul a b) qs = ends-mul (ends (getD qs a no-row)) (ends (getD qs b no-row))
+expected box (Sqr a) qs = ends-sqr (ends (getD qs a no-row))
+expected box (Min a b) qs = ends-min (ends (getD qs a no-row)) (ends (getD qs b no-row))
+expected box (Shr a b) qs = ends-shr b (ends (getD qs a no-row))
 
 -- what instruction k of a program with n knobs may name
 abbrev pub Before : ℕ → ℕ → Instruction → Type 0

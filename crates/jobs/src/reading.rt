@@ -1,6 +1,7 @@
 ghost use mathlib.Core.Path.{_≡_};
+ghost use Rattle.records.specs.Broken.{Told};
 ghost use Rattle.records.specs.Faults.{mapped};
-ghost use Rattle.jobs.specs.Reading.{Exact, content-of, verdict};
+ghost use Rattle.jobs.specs.Reading.{Exact, JobBroken, content-of, verdict};
 use crate::job::Job;
 use crate::registers::evaluate;
 use ranges::plain::Plain;
@@ -15,6 +16,7 @@ impl Job {
     pub fn read(bytes: &[u8]) -> Result<Job, Refusal>
         ensures told { λ r. ⌜ mapped content-of r ≡ verdict (now (bytes .entry)) ⌝ }
         ensures exact { λ r. ⌜ Exact (now (bytes .entry)) r ⌝ }
+        ensures first { λ r. ⌜ Told (JobBroken (now (bytes .entry))) r ⌝ }
     {
         let fields = Fields::read(bytes)?;
         let mut rows = [Row {
@@ -24,10 +26,7 @@ impl Job {
         }; 64];
         let filled = evaluate::<Plain>(&fields, &fields.start, &mut rows);
         if filled < fields.registers {
-            return Err(Refusal {
-                reason: Reason::TooLarge,
-                place: filled,
-            });
+            return Err(Refusal::new(Reason::TooLarge, filled));
         }
         Ok(Job { fields })
     }

@@ -8,3 +8,4 @@ pub mod Entries
 pub mod Layouts
 pub mod Verdicts
 pub mod Encoding
+pub mod Broken

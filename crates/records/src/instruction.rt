@@ -22,18 +22,35 @@ pub enum Instruction {
     Shr(u8, u8),
 }
 
+/// The codes of the operations in a record.
+pub(crate) const CONST: u8 = 0;
+
+pub(crate) const KNOB: u8 = 1;
+
+pub(crate) const ADD: u8 = 2;
+
+pub(crate) const SUB: u8 = 3;
+
+pub(crate) const MUL: u8 = 4;
+
+pub(crate) const SQR: u8 = 5;
+
+pub(crate) const MIN: u8 = 6;
+
+pub(crate) const SHR: u8 = 7;
+
 /// The instruction of an operation's code and its three fields. A code above 7 gives a constant.
 pub(crate) fn decode(code: u8, a: u8, b: u8, c: i32) -> Instruction
     ensures { λ r. ⌜ r ≡ decoded code a b c ⌝ }
 {
     match code {
-        1 => Instruction::Knob(a),
-        2 => Instruction::Add(a, b),
-        3 => Instruction::Sub(a, b),
-        4 => Instruction::Mul(a, b),
-        5 => Instruction::Sqr(a),
-        6 => Instruction::Min(a, b),
-        7 => Instruction::Shr(a, b),
+        KNOB => Instruction::Knob(a),
+        ADD => Instruction::Add(a, b),
+        SUB => Instruction::Sub(a, b),
+        MUL => Instruction::Mul(a, b),
+        SQR => Instruction::Sqr(a),
+        MIN => Instruction::Min(a, b),
+        SHR => Instruction::Shr(a, b),
         _ => Instruction::Const(c),
     }
 }

@@ -8,7 +8,11 @@ ghost use Rattle.records.specs.Faults.{unless, mapped};
 ghost use Rattle.records.specs.Entries.{a-values, b-values, c-reach, instruction-at, instruction-fault, side-at, side-fault, target-at, target-fault};
 use crate::bytes::read_i16;
 use crate::bytes::read_i32;
+use crate::instruction::CONST;
 use crate::instruction::Instruction;
+use crate::instruction::KNOB;
+use crate::instruction::SHR;
+use crate::instruction::SQR;
 use crate::instruction::decode;
 use crate::reason::Reason;
 use crate::reason::Refusal;
@@ -30,8 +34,8 @@ fn values_of_a(code: u8, knobs: usize, k: usize) -> usize
     ensures { λ r. ⌜ r ≡ a-values code knobs k ⌝ }
 {
     match code {
-        0 => 1,
-        1 => knobs,
+        CONST => 1,
+        KNOB => knobs,
         _ => k,
     }
 }
@@ -41,8 +45,8 @@ fn values_of_b(code: u8, k: usize) -> usize
     ensures { λ r. ⌜ r ≡ b-values code k ⌝ }
 {
     match code {
-        0 | 1 | 5 => 1,
-        7 => 31,
+        CONST | KNOB | SQR => 1,
+        SHR => 31,
         _ => k,
     }
 }
@@ -52,7 +56,7 @@ fn reach_of_c(code: u8) -> i32
     ensures { λ r. ⌜ r ≡ pos (c-reach code) ⌝ }
 {
     match code {
-        0 => BOUND,
+        CONST => BOUND,
         _ => 0,
     }
 }
@@ -71,7 +75,7 @@ pub(crate) fn read_instruction(
     let a = bytes[at + 1];
     let b = bytes[at + 2];
     let c = read_i32(bytes, at + 3);
-    if code > 7 {
+    if code > SHR {
         return Err(Refusal::new(Reason::BadInstruction, at));
     }
     if values_of_a(code, knobs, k) <= a as usize {

@@ -7,6 +7,7 @@ ghost use Rattle.records.specs.Faults.{unless, mapped};
 ghost use Rattle.records.specs.Layouts.{Shaped};
 ghost use Rattle.records.specs.Verdicts.{limit-fault, field-fault, content-in, content, verdict};
 ghost use Rattle.records.specs.Encoding.{Exact};
+ghost use Rattle.records.specs.Broken.{Broken, Told};
 use crate::bytes::read_u16;
 use crate::fields::Fields;
 use crate::layout::Counts;
@@ -62,6 +63,7 @@ impl Fields {
     pub fn read(bytes: &[u8]) -> Result<Fields, Refusal>
         ensures told { λ r. ⌜ mapped content r ≡ verdict (now (bytes .entry)) ⌝ }
         ensures exact { λ r. ⌜ Exact (now (bytes .entry)) r ⌝ }
+        ensures first { λ r. ⌜ Told (Broken (now (bytes .entry))) r ⌝ }
     {
         let counts = layout(bytes)?;
         read_fields(bytes, counts)
