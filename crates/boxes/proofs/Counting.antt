@@ -16,7 +16,8 @@ use Rattle.boxes.specs.Boxes.{Ends, In, Numbered, nought, width, count}
 use Rattle.boxes.specs.Views.{ends-of}
 use Rattle.boxes.specs.declared.side.Side.{Side}
 
-zero-side : Side
+-- the side of the one number 0
+pub zero-side : Side
 zero-side = record { low = pos 0; high = pos 0; above = record { le = tt }; order = record { le = tt }; below = record { le = tt } }
 
 -- each low end is at most its high end

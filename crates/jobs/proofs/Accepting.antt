@@ -9,12 +9,13 @@ use lib.ListN.{length}
 use Rattle.std.proofs.shelf.Tests.{cases-lt, le-ltb, lt-ltb}
 use Rattle.std.specs.declared.option.Option.{Option}
 use Rattle.std.specs.declared.option.Option.the-variants.{Some, None}
+use Rattle.std.specs.declared.result.Result.{Result}
 use Rattle.std.specs.declared.result.Result.the-variants.{Ok, Err}
 use Rattle.ranges.specs.Plains.{plain-kind}
 use Rattle.records.specs.declared.reason.Reason.the-variants.{TooLarge}
 use Rattle.records.specs.declared.reason.Refusal.{Refusal}
-use Rattle.records.specs.Encoding.{encode}
-use Rattle.records.specs.Faults.{unless}
+use Rattle.records.specs.Encoding.{Exact, encode}
+use Rattle.records.specs.Faults.{mapped, unless}
 use Rattle.records.specs.Layouts.{counts-in}
 use Rattle.records.specs.Numbers.{Bytes}
 use Rattle.records.specs.Rules.{Content}
@@ -23,7 +24,9 @@ use Rattle.records.specs.Verdicts.{verdict as fields-verdict}
 use Rattle.records.proofs.Checks.{broke, none-left, none-of, none-right, value-of, went}
 use Rattle.records.proofs.Complete.{encoding-is-accepted}
 use Rattle.records.proofs.Encoded.{accepted-is-encoding}
-use Rattle.jobs.specs.Reading.{Accepted-is-record, Record-is-accepted, RecordOf, Sound, held, job-fault, large-fault, verdict}
+use Rattle.records.proofs.Exactly.{exact-by}
+use Rattle.jobs.specs.declared.job.Job.{Job}
+use Rattle.jobs.specs.Reading.{RecordOf, Sound, content-of, held, job-fault, large-fault, verdict}
 use Rattle.jobs.specs.Registers.{gives}
 use Rattle.jobs.proofs.Fills.{fill-upto}
 
@@ -60,7 +63,8 @@ module _ (s : List ℕ) (c : Content) (e : Ok c ≡ fields-verdict s) where
   pub all-within : length (c .program) ≤ held c → Ok c ≡ verdict s
   all-within h = sym (judged ∙ ap (λ o. unless o c) (large-none c h))
 
-pub accepted-is-record : Accepted-is-record
+-- a byte string that is accepted is the record of what was read, which keeps every rule
+accepted-is-record : (s : List ℕ) (c : Content) → Bytes s → verdict s ≡ Ok c → RecordOf c s
 accepted-is-record s c b e =
     let x = content-in s (counts-in s) in
     let n = none-of (job-fault s) x c (sym e) in
@@ -71,16 +75,16 @@ accepted-is-record s c b e =
     let r = accepted-is-encoding s c b t in
     record { written = r .written; sound = record { fields = r .kept; bounded = all-held c (subst (λ y. large-fault y ≡ None) (sym v) l) } }
 
-pub record-is-accepted : Record-is-accepted
+-- the record of a job that keeps every rule is accepted, and gives the job back
+record-is-accepted : (c : Content) → Sound c → verdict (encode c) ≡ Ok c
 record-is-accepted c g =
     let e = sym (encoding-is-accepted c (g .fields)) in
     let b = g .bounded in
     sym (all-within (encode c) c e (omega arith))
 
--- what is refused is the record of no job
-pub no-record : (s : List ℕ) (d : Refusal) → Err d ≡ verdict s → (c : Content) → RecordOf c s → ⊥
-no-record s d e c r =
-    let t = ap verdict (r .written) in
-    let a = record-is-accepted c (r .sound) in
-    let z : _≡_ {A = ℕ} 0 1 = cc in
-    omega arith
+pub exact-job : (s : List ℕ) (r : Result Job Refusal) → Bytes s → mapped content-of r ≡ verdict s → Exact (λ c. RecordOf c s) content-of r
+exact-job s r b e =
+    exact-by (λ c. RecordOf c s) (verdict s)
+    (λ c q. accepted-is-record s c b q)
+    (λ c i. ap verdict (sym (i .written)) ∙ record-is-accepted c (i .sound))
+    content-of r e

@@ -2,17 +2,20 @@
 use Prim.Native.Nat.{ℕ, _<_, _≤_}
 use native.Mathlib.Omega.{arith}
 use mathlib.Core.Path.{_≡_, refl, sym, ap, subst, _∙_}
-use mathlib.Core.List.{List}
+use mathlib.Core.List.{List, _++_}
 use lib.IntN.{ℤ, pos, _+ℤ_, _-ℤ_, _*ℤ_}
 use lib.ListN.{length, getD, take}
 use lib.Signed.{_≤ℤ_}
-use Rattle.std.proofs.shelf.Lists.{getD-take}
+use Rattle.std.proofs.shelf.Lists.{getD-append-left, getD-map, getD-take, length-map}
 use Rattle.std.proofs.shelf.Signed.{ints}
 use Rattle.std.specs.Numbers.{minZ}
 use Rattle.std.specs.declared.option.Option.{Option}
 use Rattle.std.specs.declared.option.Option.the-variants.{Some, None}
 use Rattle.whole.specs.Laws.{Amid}
 use Rattle.boxes.specs.Boxes.{Ends, In, nought}
+use Rattle.boxes.specs.Views.{ends-of, sides-of}
+use Rattle.boxes.specs.declared.region.Region.{Region}
+use Rattle.boxes.proofs.Counting.{zero-side}
 use Rattle.ranges.specs.declared.row.Row.{Row}
 use Rattle.ranges.specs.Bounds.{Bounded, Ordered, point}
 use Rattle.ranges.specs.Hulls.{shifted, square}
@@ -20,7 +23,7 @@ use Rattle.ranges.specs.Kind.{Kind, Lawful, Valid, Holds, ends, Answer, Answere
 use Rattle.records.specs.declared.instruction.Instruction.{Instruction}
 use Rattle.records.specs.declared.instruction.Instruction.the-variants.{Const, Knob, Add, Sub, Mul, Sqr, Min, Shr}
 use Rattle.jobs.specs.Registers.{Before, Wired, expected, first, gives, no-row, registers, value, values}
-use Rattle.jobs.specs.Meaning.{knob-at}
+use Rattle.jobs.specs.Meaning.{RowsHold, knob-at, register}
 use Rattle.jobs.proofs.Fills.{fill-at, fill-upto}
 use Rattle.jobs.proofs.Values.{by-those-below, values-at}
 
@@ -123,3 +126,18 @@ module _ (k : Kind) (L : Lawful k) (program : List Instruction) (box : List Ends
         let b = w j (below-length j h) in
         let e = values-at program (knob-at s) (length box) w j (below-length j h) in
         subst (λ z. Holds k (getD Reg j no-row) z) (sym e) (reg-answered j h .holds (value (knob-at s) (getD program j first) Val) (value-result (getD program j first) j b (λ a q. below a q (omega arith)))))
+
+  -- and so do the rows that begin with these
+  pub rows-hold : (n : ℕ) (rows rest : List Row) → n ≡ length Reg → rows ≡ Reg ++ rest → RowsHold k program box n rows
+  rows-hold n rows rest e q s inside j h =
+      let l : j < length Reg = omega arith in
+      let g : getD rows j no-row ≡ getD Reg j no-row = ap (λ x. getD x j no-row) q ∙ getD-append-left Reg rest no-row j l in
+      subst (λ r. Holds k r (register program s j)) (sym g) (reg-holds s inside j l)
+
+-- the sides of a region are in order and within the bound
+pub region-sided : (r : Region) → Sided (sides-of r)
+region-sided r n h =
+    let xs = take (r .knobs) (r .sides) in
+    let l : n < length xs = omega (arith, length-map xs ends-of) in
+    let x = getD xs n zero-side in
+    rw (getD-map ends-of xs n zero-side nought l) (record { above = omega (arith, ints, x .above); order = x .order; below = omega (arith, ints, x .below) })

@@ -52,3 +52,7 @@ targets-long f = length-take-le (f .goals) (f .targets) (f .space)
 
 pub knobs-long : (r : Region) → length (sides-of r) ≡ r .knobs
 knobs-long r = length-map (take (r .knobs) (r .sides)) ends-of ∙ length-take-le (r .knobs) (r .sides) (r .room)
+
+-- over a region with the job's knobs, its program names only what there is
+pub region-wired : (f : Fields) (r : Region) → r .knobs ≡ f .start .knobs → Wired (length (sides-of r)) (program-of f)
+region-wired f r q = rw (knobs-long r, q) (wired (f .start .knobs) (program-of f) (f .programmed))

@@ -5,11 +5,13 @@ use mathlib.Core.List.{List}
 use lib.IntN.{ℤ, pos, negsuc}
 use lib.ListN.{length, getD}
 use lib.Signed.{_≤ℤ_}
-use Rattle.boxes.specs.Boxes.{In}
+use Rattle.boxes.specs.Boxes.{Ends, In}
+use Rattle.ranges.specs.declared.row.Row.{Row}
+use Rattle.ranges.specs.Kind.{Holds, Kind}
 use Rattle.records.specs.declared.instruction.Instruction.{Instruction}
 use Rattle.records.specs.declared.target.Target.{Target}
 use Rattle.records.specs.Rules.{Content}
-use Rattle.jobs.specs.Registers.{Wired, first, value, values}
+use Rattle.jobs.specs.Registers.{Wired, first, no-row, value, values}
 
 -- what each knob reads at a setting
 abbrev pub knob-at : List ℤ → ℕ → ℤ
@@ -18,6 +20,10 @@ knob-at setting n = getD setting n (pos 0)
 -- the value of register k at a setting
 abbrev pub register : List Instruction → List ℤ → ℕ → ℤ
 register program setting k = getD (values program (knob-at setting)) k (pos 0)
+
+-- each of the first n rows holds its register's value at every setting of the box
+abbrev pub RowsHold : Kind → List Instruction → List Ends → ℕ → List Row → Type 0
+RowsHold k program box n rows = (setting : List ℤ) → In box setting → (j : ℕ) → j < n → Holds k (getD rows j no-row) (register program setting j)
 
 -- the target's register lies from its low end to its high end
 pub record Hits (program : List Instruction) (setting : List ℤ) (t : Target) : Type 0 where

@@ -6,7 +6,6 @@ use lib.Dec.{ltb}
 use lib.ListN.{length, getD}
 use Rattle.std.specs.declared.option.Option.{Option}
 use Rattle.std.specs.declared.result.Result.{Result}
-use Rattle.std.specs.declared.result.Result.the-variants.{Ok, Err}
 use Rattle.ranges.specs.Bounds.{Bounded}
 use Rattle.ranges.specs.Plains.{plain-kind}
 use Rattle.records.specs.declared.reason.Reason.the-variants.{TooLarge}
@@ -14,12 +13,10 @@ use Rattle.records.specs.declared.reason.Refusal.{Refusal}
 use Rattle.records.specs.Broken.{Broken, at}
 use Rattle.records.specs.Encoding.{encode}
 use Rattle.records.specs.Faults.{orElse, unless, when}
-use Rattle.records.specs.Numbers.{Bytes}
 use Rattle.records.specs.Rules.{Content, Keeps}
 use Rattle.records.specs.Layouts.{counts-in}
 use Rattle.records.specs.Verdicts.{content, content-in, fault}
 use Rattle.jobs.specs.declared.job.Job.{Job}
-use Rattle.jobs.specs.Meaning.{Tame}
 use Rattle.jobs.specs.Registers.{expected, first, registers}
 
 -- what a job says
@@ -62,17 +59,3 @@ pub record Sound (c : Content) : Type 0 where
 pub record RecordOf (c : Content) (s : List ℕ) : Type 0 where
   pub written : encode c ≡ s
   pub sound : Sound c
-
--- a byte string that is accepted is the record of what was read
-abbrev pub Accepted-is-record : Type 0
-Accepted-is-record = (s : List ℕ) (c : Content) → Bytes s → verdict s ≡ Ok c → RecordOf c s
-
--- the record of a job that keeps every rule is accepted, and gives the job back
-abbrev pub Record-is-accepted : Type 0
-Record-is-accepted = (c : Content) → Sound c → verdict (encode c) ≡ Ok c
-
--- a job that was read is the one whose record this is, and no register of it leaves the bound at a setting of the start box;
--- what is refused is the record of no job
-abbrev pub Exact : List ℕ → Result Job Refusal → Type 0
-Exact s (Ok j) = RecordOf (content-of j) s × Tame (content-of j)
-Exact s (Err d) = (c : Content) → RecordOf c s → ⊥

@@ -1,7 +1,10 @@
 ghost use mathlib.Core.Path.{_≡_};
+ghost use Rattle.std.specs.Vec.{made};
 ghost use Rattle.records.specs.Broken.{Told};
+ghost use Rattle.records.specs.Encoding.{Exact};
 ghost use Rattle.records.specs.Faults.{mapped};
-ghost use Rattle.jobs.specs.Reading.{Exact, JobBroken, content-of, verdict};
+ghost use Rattle.jobs.specs.Meaning.{Tame};
+ghost use Rattle.jobs.specs.Reading.{JobBroken, RecordOf, content-of, verdict};
 use crate::job::Job;
 use crate::registers::evaluate;
 use ranges::plain::Plain;
@@ -15,8 +18,9 @@ impl Job {
     /// The job of a record, or why the record is refused, and where.
     pub fn read(bytes: &[u8]) -> Result<Job, Refusal>
         ensures told { λ r. ⌜ mapped content-of r ≡ verdict (now (bytes .entry)) ⌝ }
-        ensures exact { λ r. ⌜ Exact (now (bytes .entry)) r ⌝ }
+        ensures exact { λ r. ⌜ Exact (λ c. RecordOf c (now (bytes .entry))) content-of r ⌝ }
         ensures first { λ r. ⌜ Told (JobBroken (now (bytes .entry))) r ⌝ }
+        ensures tame { λ r. ⌜ made r (λ j. Tame (content-of j)) ⌝ }
     {
         let fields = Fields::read(bytes)?;
         let mut rows = [Row {

@@ -4,6 +4,7 @@ ghost use mathlib.Core.List.{_++_};
 ghost use lib.ListN.{length, getD, take, drop};
 ghost use Rattle.boxes.specs.Views.{sides-of};
 ghost use Rattle.ranges.specs.Kind.{rowed};
+ghost use Rattle.jobs.specs.Meaning.{RowsHold};
 ghost use Rattle.jobs.specs.Registers.{AllValid, Before, gives, no-row, program-of, registers};
 use boxes::region::Region;
 use ranges::range::Range;
@@ -51,6 +52,7 @@ pub fn evaluate<R: Range>(fields: &Fields, region: &Region, rows: &mut [Row]) ->
     ensures count { λ r. ⌜ r ≡ length (registers (R·Range .kind) (program-of (now (fields .entry))) (sides-of (now (region .entry)))) ⌝ }
     ensures bound { λ r. ⌜ r ≤ now (fields .entry) .registers ⌝ }
     ensures filled { λ r. ⌜ now (rows .exit) ≡ registers (R·Range .kind) (program-of (now (fields .entry))) (sides-of (now (region .entry))) ++ drop r (now (rows .entry)) ⌝ }
+    ensures holds { λ r. ⌜ RowsHold (R·Range .kind) (program-of (now (fields .entry))) (sides-of (now (region .entry))) r (now (rows .exit)) ⌝ }
 {
     for k in 0..fields.registers {
         match evaluate_one::<R>(fields.program[k], k, region, rows) {

@@ -26,7 +26,7 @@ use Rattle.records.specs.Rules.{Content, Keeps, good-instruction, good-target}
 use Rattle.records.specs.Entries.{side-faults, sides-from, instruction-faults, instructions-from, target-faults, targets-from}
 use Rattle.records.specs.Layouts.{instructions-in, targets-in, counts-in, ends-at, head-fault, count-fault, size-fault, layout-fault}
 use Rattle.records.specs.Verdicts.{limit-fault, sides-fault, program-fault, targets-fault, field-fault, fault, sides-read, program-read, targets-read, content-in, verdict}
-use Rattle.records.specs.Encoding.{encode-side, encode-instruction, encode-target, table, tables, body, encode, Encoding-is-accepted}
+use Rattle.records.specs.Encoding.{encode-side, encode-instruction, encode-target, table, tables, body, encode}
 use Rattle.records.proofs.Digits.{join16, join32}
 use Rattle.records.proofs.Checks.{one-clean, both-none}
 use Rattle.records.proofs.Runs.{all-none, every-at}
@@ -171,5 +171,6 @@ module _ (c : Content) (g : Keeps c) where
       let n : fault (encode c) ≡ None = both-none (layout-fault (encode c)) _ layout-clean f in
       ap (λ (o : Option Refusal). unless o (content-in (encode c) (counts-in (encode c)))) n ∙ ap (λ (x : Content). Ok x) v
 
-pub encoding-is-accepted : Encoding-is-accepted
+-- the record of a content that keeps every rule is accepted, and gives the content back
+pub encoding-is-accepted : (c : Content) → Keeps c → verdict (encode c) ≡ Ok c
 encoding-is-accepted c g = accepted c g

@@ -11,19 +11,16 @@ use Rattle.std.proofs.shelf.Lists.{drop-all}
 use Rattle.std.proofs.shelf.Tests.{eqb-true, not-false}
 use Rattle.std.specs.Joined.{joined}
 use Rattle.std.specs.declared.option.Option.the-variants.{None}
-use Rattle.std.specs.declared.result.Result.{Result}
-use Rattle.std.specs.declared.result.Result.the-variants.{Ok, Err}
+use Rattle.std.specs.declared.result.Result.the-variants.{Ok}
 use Rattle.records.specs.declared.reason.Reason.the-variants.{BadLength, BadVersion}
-use Rattle.records.specs.declared.reason.Refusal.{Refusal}
-use Rattle.records.specs.declared.fields.Fields.{Fields}
 use Rattle.records.specs.Numbers.{byte, nat16, nat32, bytes16, bytes32, Bytes}
 use Rattle.records.specs.Places.{version-place, knobs-place, limit-place, sides-start, side-size, program-place, program-start, instruction-size, targets-place, targets-start, target-size}
-use Rattle.records.specs.Faults.{first, mapped}
+use Rattle.records.specs.Faults.{first}
 use Rattle.records.specs.Rules.{Content, Keeps}
 use Rattle.records.specs.Entries.{sides-from, instruction-faults, instructions-from, targets-from}
 use Rattle.records.specs.Layouts.{knobs-in, instructions-in, targets-in, counts-in, ends-at, head-fault, layout-fault, Shaped}
-use Rattle.records.specs.Verdicts.{limit-fault, sides-fault, program-fault, targets-fault, field-fault, fault, sides-read, program-read, targets-read, content-in, verdict, content}
-use Rattle.records.specs.Encoding.{encode-side, encode-instruction, encode-target, table, tables, body, encode, RecordOf, Accepted-is-encoding, Exact}
+use Rattle.records.specs.Verdicts.{limit-fault, sides-fault, program-fault, targets-fault, field-fault, fault, sides-read, program-read, targets-read, content-in, verdict}
+use Rattle.records.specs.Encoding.{encode-side, encode-instruction, encode-target, table, tables, body, encode, RecordOf}
 use Rattle.records.proofs.Checks.{value-of, none-of, none-left, none-right, rest-unmet}
 use Rattle.records.proofs.Runs.{each-none}
 use Rattle.records.proofs.Goods.{limit-within, sides-good, program-good, targets-good}
@@ -139,14 +136,11 @@ module _ (s : List ℕ) (b : Bytes s) (le : layout-fault s ≡ None) (fe : field
   pub record-of : RecordOf (content-in s (counts-in s)) s
   record-of = record { written = encode-is; kept = keeps }
 
-pub accepted-is-encoding : Accepted-is-encoding
+-- a byte string that is accepted is the record of what was read, which keeps every rule
+pub accepted-is-encoding : (s : List ℕ) (c : Content) → Bytes s → verdict s ≡ Ok c → RecordOf c s
 accepted-is-encoding s c b e =
     let n = none-of (fault s) (content-in s (counts-in s)) c (sym e) in
     let v = value-of (fault s) (content-in s (counts-in s)) c (sym e) in
     let l = none-left (layout-fault s) (field-fault s (counts-in s)) n in
     let f = none-right (layout-fault s) (field-fault s (counts-in s)) n in
     subst (λ (x : Content). RecordOf x s) (sym v) (record-of s b l f)
-
-pub exactly : (s : List ℕ) (r : Result Fields Refusal) → Bytes s → mapped content r ≡ verdict s → Exact s r
-exactly s (Ok f) b e = accepted-is-encoding s (content f) b (sym e)
-exactly s (Err d) b e = tt

@@ -12,3 +12,4 @@ pub mod Encoded
 pub mod Given
 pub mod Placed
 pub mod Complete
+pub mod Exactly

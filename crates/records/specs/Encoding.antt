@@ -62,15 +62,8 @@ pub record RecordOf (c : Content) (s : List ℕ) : Type 0 where
   pub written : encode c ≡ s
   pub kept : Keeps c
 
--- a byte string that is accepted is the record of what was read, which keeps every rule
-abbrev pub Accepted-is-encoding : Type 0
-Accepted-is-encoding = (s : List ℕ) (c : Content) → Bytes s → verdict s ≡ Ok c → RecordOf c s
-
--- the record of a content that keeps every rule is accepted, and gives the content back
-abbrev pub Encoding-is-accepted : Type 0
-Encoding-is-accepted = (c : Content) → Keeps c → verdict (encode c) ≡ Ok c
-
--- where fields were read, the byte string is their record, and they keep every rule
-abbrev pub Exact : List ℕ → Result Fields Refusal → Type 0
-Exact s (Ok f) = RecordOf (content f) s
-Exact s (Err d) = Unit {0}
+-- an answer is exact about what a byte string is the record of: where something was read, it is the record of that and of nothing else;
+-- what is refused is the record of nothing
+abbrev pub Exact : {A : Type 0} → (Content → Type 0) → (A → Content) → Result A Refusal → Type 0
+Exact Is view (Ok x) = Is (view x) × ((c : Content) → Is c → c ≡ view x)
+Exact Is view (Err d) = (c : Content) → Is c → ⊥

@@ -11,7 +11,7 @@ fn digit(b: u8) -> Option<u8> {
 }
 
 /// The bytes that a text in hexadecimal spells.
-pub fn bytes_of(heap: Global, text: &str) -> Result<Vec<u8>, Fail> {
+pub(crate) fn bytes_of(heap: Global, text: &str) -> Result<Vec<u8>, Fail> {
     let mut bytes = Vec::new(heap);
     for pair in text.as_bytes().chunks(2) {
         let [high, low] = pair else {

@@ -8,8 +8,9 @@ use Rattle.std.proofs.shelf.Lists.{getD-take}
 use Rattle.ranges.specs.Kind.{Valid}
 use Rattle.std.specs.declared.option.Option.the-variants.{Some, None}
 use Rattle.jobs.specs.Registers.{Before, first, gives, program-of, registers}
+use Rattle.jobs.proofs.Holding.{region-sided, rows-hold}
 use Rattle.jobs.proofs.Turns.{turn-some, turn-none, turns-over, valid-more, rest-more, ends-with}
-use Rattle.jobs.proofs.Wiring.{program-long, program-wired}
+use Rattle.jobs.proofs.Wiring.{program-long, program-wired, region-wired}
 use Rattle.jobs.proofs.registers.evaluate.Needs as need
 
 pub evaluate-one-requires : need.evaluate-one-requires
@@ -32,7 +33,12 @@ returns-in-None g c =
     let t = c .in-None .ensures tt ∙ ap (λ i. gives m box i (take k rows)) (sym (getD-take (f .registers) (f .program) k first (c .loop-k-test .taken))) in
     let e = sym (c .loop-k .inv .1) ∙ turn-none m box code rows k (omega arith) t in
     let w = ends-with (registers m code box) rows (c .args .rows .now) k n e (c .loop-k .inv .2) in
-    record { count = w .count; bound = omega arith; filled = w .filled }
+    record {
+      count = w .count;
+      bound = omega arith;
+      filled = w .filled;
+      holds = rows-hold m (g .R·Range·met .lawful) code box (region-sided (c .args .region .now)) (region-wired f (c .args .region .now) (c .pre .knobs)) k rows _ (w .count) (w .filled);
+    }
 
 pub loop-k-again : need.loop-k-again
 loop-k-again g c =
@@ -65,4 +71,10 @@ returns g c =
     let e = sym (c .loop-k .inv .1) ∙ turns-over m box code rows k (omega arith) in
     let w = ends-with (registers m code box) rows (c .args .rows .now) k n e (c .loop-k .inv .2) in
     let q : k ≡ f .registers = omega arith in
-    record { count = sym q ∙ w .count; bound = omega arith; filled = w .filled ∙ ap (λ i. registers m code box ++ drop i (c .args .rows .now)) q }
+    let t : rows ≡ registers m code box ++ drop (f .registers) (c .args .rows .now) = w .filled ∙ ap (λ i. registers m code box ++ drop i (c .args .rows .now)) q in
+    record {
+      count = sym q ∙ w .count;
+      bound = omega arith;
+      filled = t;
+      holds = rows-hold m (g .R·Range·met .lawful) code box (region-sided (c .args .region .now)) (region-wired f (c .args .region .now) (c .pre .knobs)) (f .registers) rows _ (sym q ∙ w .count) t;
+    }

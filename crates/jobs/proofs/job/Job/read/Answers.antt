@@ -4,7 +4,7 @@ use native.Mathlib.Omega.{arith}
 use mathlib.Core.Path.{_≡_, sym, ap, subst, _∙_}
 use lib.ListN.{length}
 use Rattle.std.proofs.shelf.Results.{err-from-errBy}
-use Rattle.std.specs.declared.result.Result.the-variants.{Err}
+use Rattle.std.specs.declared.result.Result.the-variants.{Ok, Err}
 use Rattle.records.specs.declared.reason.Reason.the-variants.{TooLarge}
 use Rattle.records.specs.declared.reason.Refusal.{Refusal}
 use Rattle.records.specs.Broken.{Told, at}
@@ -13,7 +13,7 @@ use Rattle.records.specs.Rules.{Content}
 use Rattle.records.specs.Verdicts.{content, content-in}
 use Rattle.jobs.specs.Reading.{JobBroken, Leaves, held, verdict}
 use Rattle.jobs.specs.Registers.{program-of}
-use Rattle.jobs.proofs.Accepting.{accepted-is-record, all-within, fields-refused, is-content, no-record, too-large}
+use Rattle.jobs.proofs.Accepting.{all-within, exact-job, fields-refused, is-content, too-large}
 use Rattle.jobs.proofs.Taming.{tame}
 use Rattle.jobs.proofs.Telling.{leaving, told-fields, told-large, told-none}
 use Rattle.jobs.proofs.Wiring.{program-long}
@@ -24,7 +24,12 @@ returns-in-Break-fields c =
     let s = c .args .bytes .now in
     let p = err-from-errBy (c .from-residual .result) (c .from-residual .ensures .1) in
     let e = fields-refused s _ (c .in-Break-fields .ensures tt .told) in
-    rw (p .1, p .2) (record { told = e; exact = no-record s _ e; first = told-fields s _ (c .in-Break-fields .ensures tt .first) })
+    rw (p .1, p .2) (record {
+      told = e;
+      exact = exact-job s (Err _) (λ i. omega (arith, c .typed .bytes i)) e;
+      first = told-fields s _ (c .in-Break-fields .ensures tt .first);
+      tame = tt;
+    })
 
 pub returns-then-filled-fields : need.returns-then-filled-fields
 returns-then-filled-fields c =
@@ -36,11 +41,12 @@ returns-then-filled-fields c =
     let h : held (content f) < length (program-of f) = omega arith in
     let r : c .new .result ≡ at TooLarge (held (content f)) = c .new .ensures ∙ ap (at TooLarge) n in
     let e : Err (c .new .result) ≡ verdict s = ap Err r ∙ too-large s (content f) (was .told) h in
-    let g = subst (λ (x : Content). Leaves x (held (content f))) (is-content s (content f) (was .told)) (leaving (content f) (was .exact .kept) h) in
+    let g = subst (λ (x : Content). Leaves x (held (content f))) (is-content s (content f) (was .told)) (leaving (content f) (was .exact .0 .kept) h) in
     record {
       told = e;
-      exact = no-record s _ e;
+      exact = exact-job s (Err _) (λ i. omega (arith, c .typed .bytes i)) e;
       first = subst (λ (d : Refusal). Told {A = Content} (JobBroken s) (Err d)) (sym r) (told-large s (was .first) (held (content f)) g);
+      tame = tt;
     }
 
 pub returns : need.returns
@@ -52,9 +58,11 @@ returns c =
     let n : c .evaluate-filled .result ≡ held (content f) = c .evaluate-filled .ensures .count in
     let h : length (program-of f) ≤ held (content f) = omega arith in
     let e = all-within s (content f) (was .told) h in
-    let r = accepted-is-record s (content f) (λ i. omega (arith, c .typed .bytes i)) (sym e) in
+    let b : held (content f) ≡ length (program-of f) = omega (arith, c .evaluate-filled .ensures .bound) in
+    let q : held (content f) ≡ f .registers = omega arith in
     record {
       told = e;
-      exact = (r, tame (content f) (r .sound));
+      exact = exact-job s (Ok (record { fields = f; bounded = q })) (λ i. omega (arith, c .typed .bytes i)) e;
       first = told-none s (was .first) (content f) (subst (λ (x : Content). length (x .program) ≤ held x) (is-content s (content f) (was .told)) h);
+      tame = tame (content f) (record { fields = was .exact .0 .kept; bounded = b });
     }
