@@ -1,7 +1,6 @@
 ghost use mathlib.Core.Path.{_≡_};
 ghost use Prim.Native.Nat.{_+_, _≤_};
-ghost use lib.IntN.{ℤ};
-ghost use Rattle.boxes.specs.Boxes.{Ends, width};
+ghost use Rattle.boxes.specs.Boxes.{width};
 ghost use Rattle.boxes.specs.Views.{ends-of, shown, side};
 use crate::side::Side;
 

@@ -1,11 +1,10 @@
 -- The rows of the registers over a box hold the registers' values at its settings, by any lawful kind of range.
-use Prim.Native.Nat.{ℕ, _<_, _≤_}
+use Prim.Native.Nat.{ℕ, _<_}
 use native.Mathlib.Omega.{arith}
 use mathlib.Core.Path.{_≡_, refl, sym, ap, subst, _∙_}
 use mathlib.Core.List.{List, _++_}
 use lib.IntN.{ℤ, pos, _+ℤ_, _-ℤ_, _*ℤ_}
 use lib.ListN.{length, getD, take}
-use lib.Signed.{_≤ℤ_}
 use Rattle.std.proofs.shelf.Lists.{getD-append-left, getD-map, getD-take, length-map}
 use Rattle.std.proofs.shelf.Signed.{ints}
 use Rattle.std.specs.Numbers.{minZ}
@@ -19,7 +18,7 @@ use Rattle.boxes.proofs.Counting.{zero-side}
 use Rattle.ranges.specs.declared.row.Row.{Row}
 use Rattle.ranges.specs.Bounds.{Bounded, Ordered, point}
 use Rattle.ranges.specs.Hulls.{shifted, square}
-use Rattle.ranges.specs.Kind.{Kind, Lawful, Valid, Holds, ends, Answer, Answered, Of-one, Of-two, Spans, Constant}
+use Rattle.ranges.specs.Kind.{Kind, Lawful, Valid, Holds, Answer, Answered, Of-one, Of-two, Spans, Constant}
 use Rattle.records.specs.declared.instruction.Instruction.{Instruction}
 use Rattle.records.specs.declared.instruction.Instruction.the-variants.{Const, Knob, Add, Sub, Mul, Sqr, Min, Shr}
 use Rattle.jobs.specs.Registers.{Before, Wired, expected, first, gives, no-row, registers, value, values}

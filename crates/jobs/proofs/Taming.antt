@@ -1,14 +1,10 @@
 -- Over its start box no register of a job leaves the bound.
-use Prim.Native.Nat.{ℕ, _+_, _<_}
+use Prim.Native.Nat.{_<_}
 use native.Mathlib.Omega.{arith}
-use mathlib.Core.Path.{_≡_}
-use mathlib.Core.Bool.{true}
-use lib.IntN.{ℤ, pos}
 use lib.ListN.{length, getD}
 use Rattle.std.proofs.shelf.Signed.{ints}
 use Rattle.boxes.specs.Boxes.{good-side, nought}
 use Rattle.boxes.proofs.Goods.{good-in}
-use Rattle.ranges.specs.Kind.{Lawful, ends}
 use Rattle.ranges.specs.Plains.{plain-kind}
 use Rattle.ranges.proofs.Lawfulness.{plain-lawful}
 use Rattle.records.specs.Rules.{Content, Keeps}

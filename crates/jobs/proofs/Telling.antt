@@ -1,7 +1,7 @@
 -- The refusal that is told is the broken rule that is looked at first.
 use Prim.Native.Nat.{ℕ, _<_, _≤_}
 use native.Mathlib.Omega.{arith}
-use mathlib.Core.Path.{_≡_, refl, subst}
+use mathlib.Core.Path.{refl, subst}
 use mathlib.Core.List.{List}
 use lib.ListN.{length, getD}
 use Rattle.std.specs.declared.result.Result.the-variants.{Ok, Err}
@@ -18,7 +18,7 @@ use Rattle.records.proofs.Firsts.{broken-stage}
 use Rattle.records.proofs.Ranks.{later-place, later-stage}
 use Rattle.jobs.specs.Reading.{JobBroken, Leaves, held}
 use Rattle.jobs.specs.Reading.JobBroken.{in-fields, in-registers}
-use Rattle.jobs.specs.Registers.{expected, first, gives, no-row, registers}
+use Rattle.jobs.specs.Registers.{expected, first, gives, registers}
 use Rattle.jobs.proofs.Fills.{fill-stops}
 use Rattle.jobs.proofs.Holding.{Results, gives-answer, reg-valid}
 use Rattle.jobs.proofs.Taming.{sided}

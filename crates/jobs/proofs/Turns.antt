@@ -1,9 +1,9 @@
 -- The turns of an evaluation: one register more, from the rows before it.
-use Prim.Native.Nat.{ℕ, zero, suc, _+_, _<_, _≤_}
+use Prim.Native.Nat.{ℕ, _+_, _<_, _≤_}
 use native.Mathlib.Omega.{arith}
 use mathlib.Core.Logic.{_≢_}
-use mathlib.Core.Path.{_≡_, refl, sym, ap, subst, _∙_}
-use mathlib.Core.List.{List, [], _∷_, _++_}
+use mathlib.Core.Path.{_≡_, sym, ap, subst, _∙_}
+use mathlib.Core.List.{List, _++_}
 use lib.ListN.{length, getD, set, take, drop}
 use borrow.Author.Count.{below-more}
 use Rattle.std.proofs.shelf.Lists.{getD-take, getD-map, length-take, take-more-set, drop-all, at-drop-more, drop-set-lt, drop-drop, getD-set-same, getD-set-other, length-take-le, take-append-drop}
@@ -14,10 +14,10 @@ use Rattle.boxes.specs.Views.{ends-of, sides-of}
 use Rattle.boxes.specs.declared.region.Region.{Region}
 use Rattle.boxes.specs.declared.side.Side.{Side}
 use Rattle.ranges.specs.declared.row.Row.{Row}
-use Rattle.ranges.specs.Kind.{Kind, Lawful, Valid}
+use Rattle.ranges.specs.Kind.{Kind, Lawful}
 use Rattle.records.specs.declared.instruction.Instruction.{Instruction}
 use Rattle.records.specs.declared.instruction.Instruction.the-variants.{Knob}
-use Rattle.jobs.specs.Registers.{onward, fill, gives, registers, Before, AllValid, no-row, first}
+use Rattle.jobs.specs.Registers.{onward, fill, gives, Before, AllValid, no-row, first}
 
 module _ (k : Kind) (L : Lawful k) (box : List Ends) (m n : ℕ) (rows : List Row) (v : AllValid k rows n) where
   -- an earlier row gives its range back

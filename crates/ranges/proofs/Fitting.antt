@@ -1,12 +1,9 @@
 -- Rows of the plain kind: which there are, what they hold, and the answer with given ends.
-use Prim.Native.Nat.{ℕ}
-use native.Mathlib.Omega.{arith}
 use mathlib.Core.Path.{_≡_, refl, ap, _∙_}
-use mathlib.Core.Bool.{true, cond}
+use mathlib.Core.Bool.{true}
 use lib.Dec.{eqb}
-use lib.IntN.{ℤ, pos, negsuc}
-use lib.Signed.{_≤ℤ_, leZ}
-use Rattle.std.proofs.shelf.Signed.{ints}
+use lib.IntN.{ℤ, negsuc}
+use lib.Signed.{leZ}
 use Rattle.std.proofs.shelf.Tests.{and-parts, and-from, both-ways, cond-both, eqb-true}
 use Rattle.std.specs.declared.option.Option.{Option}
 use Rattle.std.specs.declared.option.Option.the-variants.{Some, None}

@@ -1,16 +1,13 @@
 -- The answers of the plain kind grow with their operands.
 use native.Mathlib.Omega.{arith}
-use mathlib.Core.Path.{_≡_}
 use lib.IntN.{ℤ}
 use lib.Signed.{_≤ℤ_}
 use Rattle.std.proofs.shelf.Signed.{ints}
-use Rattle.std.specs.declared.option.Option.the-variants.{Some, None}
 use Rattle.boxes.specs.Boxes.{Ends}
-use Rattle.ranges.specs.declared.row.Row.{Row}
 use Rattle.ranges.specs.Bounds.{Bounded, Inside}
 use Rattle.ranges.specs.Kind.{ends}
-use Rattle.ranges.specs.Plains.{plain, plain-kind, row-of}
-use Rattle.ranges.specs.PlainLaws.{Grows, GrowsOne, GrowsTwo, GrowingAnswers, Within}
+use Rattle.ranges.specs.Plains.{plain, row-of}
+use Rattle.ranges.specs.PlainLaws.{Grows, GrowsOne, GrowsTwo, GrowingAnswers}
 use Rattle.ranges.proofs.Fitting.{valid-in, plain-by, plain-yes}
 use Rattle.ranges.proofs.Hulls.{Hull1, Hull2, nested1, nested2, hull-add, hull-sub, hull-mul, hull-sqr, hull-min, hull-shr}
 use Rattle.ranges.proofs.Lawfulness.{ordered, unordered, one-order, two-order}

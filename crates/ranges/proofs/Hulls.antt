@@ -1,10 +1,9 @@
 -- The plain answer of each operation is the hull of its results: they lie between its ends, which are results.
 use Prim.Native.Nat.{ℕ, _^_, min}
 use native.Mathlib.Omega.{arith}
-use mathlib.Core.Path.{_≡_, sym, _∙_}
 use mathlib.Core.Bool.{Bool, true, false, cond}
 use lib.IntN.{ℤ, pos, _+ℤ_, _-ℤ_, _*ℤ_}
-use lib.Signed.{_≤ℤ_, ltZ, leZ}
+use lib.Signed.{_≤ℤ_, ltZ}
 use Rattle.std.proofs.shelf.Signed.{ints, clamps, by-ltZ}
 use Rattle.std.proofs.shelf.Bits.{pow-pos}
 use Rattle.std.specs.Numbers.{maxZ, minZ}

@@ -2,22 +2,21 @@
 use Prim.Native.Nat.{ℕ}
 use native.Mathlib.Omega.{arith}
 use mathlib.Core.Path.{_≡_, refl, sym, ap, subst, _∙_}
-use mathlib.Core.Bool.{true, _&&_}
+use mathlib.Core.Bool.{_&&_}
 use lib.Dec.{T}
-use lib.IntN.{ℤ, pos, _+ℤ_, _-ℤ_, _*ℤ_}
+use lib.IntN.{ℤ, _+ℤ_, _-ℤ_, _*ℤ_}
 use lib.Signed.{_≤ℤ_, _<ℤ_, leZ, ltZ}
 use Rattle.std.proofs.shelf.Signed.{ints, clamps, by-ltZ}
 use Rattle.std.proofs.shelf.Tests.{and-parts, and-from}
 use Rattle.std.specs.Numbers.{maxZ, minZ}
 use Rattle.std.specs.Options.{valueOr}
-use Rattle.std.specs.declared.option.Option.the-variants.{Some, None}
 use Rattle.whole.specs.Laws.{Amid}
 use Rattle.whole.proofs.Products.{is-le, le-in}
 use Rattle.boxes.specs.Boxes.{Ends, nought}
 use Rattle.ranges.specs.declared.row.Row.{Row}
-use Rattle.ranges.specs.Bounds.{Bounded, Ordered, Inside, point}
+use Rattle.ranges.specs.Bounds.{Bounded, Ordered, point}
 use Rattle.ranges.specs.Hulls.{ends-add, ends-sub, ends-mul, ends-sqr, ends-min, ends-shr, square, shifted}
-use Rattle.ranges.specs.Kind.{Valid, Holds, ends, Answered, Answer, Of-one, Of-two, One, Two, Spans, Constant, Tells, Lawful, Keeping, Kept}
+use Rattle.ranges.specs.Kind.{Valid, Holds, ends, Answer, Of-one, Of-two, One, Two, Spans, Constant, Tells, Lawful, Keeping, Kept}
 use Rattle.ranges.specs.Plains.{plain, plain-kind, plain-keeper, row-of}
 use Rattle.ranges.proofs.Fitting.{valid-in, valid-step, row-valid, holds-in, holds-out, plain-by, plain-yes}
 use Rattle.ranges.proofs.Hulls.{On, Hull1, Hull2, low-on, high-on, hull-add, hull-sub, hull-mul, hull-sqr, hull-min, hull-shr}

@@ -4,7 +4,6 @@ use mathlib.Core.Path.{_≡_, refl}
 use lib.IntN.{ℤ}
 use lib.Signed.{_≤ℤ_}
 use Rattle.std.proofs.shelf.Signed.{ints}
-use Rattle.std.specs.declared.option.Option.the-variants.{Some, None}
 use Rattle.boxes.specs.Boxes.{Ends}
 use Rattle.ranges.specs.declared.row.Row.{Row}
 use Rattle.ranges.specs.Bounds.{Bounded, Inside, point}

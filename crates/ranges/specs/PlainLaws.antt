@@ -8,7 +8,7 @@ use Rattle.std.specs.declared.option.Option.the-variants.{Some, None}
 use Rattle.ranges.specs.declared.row.Row.{Row}
 use Rattle.ranges.specs.Bounds.{Inside}
 use Rattle.ranges.specs.Hulls.{square, shifted}
-use Rattle.ranges.specs.Kind.{Kind, Valid, Holds, Of-one, Of-two, ends}
+use Rattle.ranges.specs.Kind.{Valid, Holds, Of-one, Of-two, ends}
 use Rattle.ranges.specs.Plains.{plain-kind}
 
 -- the plain range of the row holds every number with the property P

@@ -1,7 +1,7 @@
 -- The plain kind: all whole numbers from low to high.
 use mathlib.Core.Bool.{Bool, _&&_, cond}
 use lib.Dec.{eqb}
-use lib.IntN.{ℤ, pos, negsuc}
+use lib.IntN.{pos, negsuc}
 use lib.Signed.{leZ, ltZ}
 use Rattle.std.specs.Numbers.{maxZ, minZ}
 use Rattle.std.specs.Options.{valueOr}

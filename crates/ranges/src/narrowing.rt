@@ -1,5 +1,4 @@
 ghost use mathlib.Core.Path.{_≡_};
-ghost use lib.IntN.{ℤ};
 ghost use Rattle.std.specs.declared.option.Option.{Option};
 ghost use Rattle.ranges.specs.Kind.{Keeper, Keeping, Kept, rowed};
 use crate::range::Range;

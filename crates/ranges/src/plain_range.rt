@@ -1,6 +1,4 @@
 ghost use mathlib.Core.Path.{_≡_};
-ghost use lib.IntN.{ℤ};
-ghost use Rattle.boxes.specs.Boxes.{Ends};
 ghost use Rattle.ranges.specs.Hulls.{low-square};
 ghost use Rattle.ranges.specs.Kind.{rowed};
 ghost use Rattle.ranges.specs.Plains.{plain, plain-row, plain-kind, plain-keeper};

@@ -1,6 +1,4 @@
-ghost use Prim.Native.Nat.{ℕ};
 ghost use mathlib.Core.Path.{_≡_};
-ghost use lib.IntN.{ℤ};
 ghost use Rattle.std.specs.declared.option.Option.{Option};
 ghost use Rattle.ranges.specs.declared.row.Row.{Row};
 ghost use Rattle.ranges.specs.Kind.{Kind, Lawful, Valid, rowed};

@@ -12,7 +12,7 @@ use Rattle.records.specs.declared.instruction.Instruction.{Instruction}
 use Rattle.records.specs.declared.instruction.Instruction.the-variants.{Const, Knob, Add, Sub, Mul, Sqr, Min, Shr}
 use Rattle.records.specs.Places.{instruction-size}
 use Rattle.records.specs.Faults.{listed}
-use Rattle.records.specs.Encoding.{encode-instruction, table}
+use Rattle.records.specs.Encoding.{encode-instruction}
 
 -- the items at each number make the list
 pub listed-is : {A : Type 0} (item : ℕ → A) (xs : List A) (d : A) → ((i : ℕ) → i < length xs → item i ≡ getD xs i d) → listed item (length xs) ≡ xs

@@ -17,7 +17,7 @@ use Rattle.records.specs.Places.{knobs-place, program-place, targets-place}
 use Rattle.records.specs.Rules.{Content}
 use Rattle.records.specs.Faults.{unless}
 use Rattle.records.specs.Layouts.{knobs-in, instructions-in, counts-in, ends-at, head-fault, count-fault, size-fault, layout-fault, Shaped}
-use Rattle.records.specs.Verdicts.{field-fault, content-in, fault, verdict}
+use Rattle.records.specs.Verdicts.{field-fault, content-in, verdict}
 use Rattle.records.proofs.Checks.{value-of, none-of, went, broke, none-left, none-right, rest-unmet}
 
 counted : (s : List ℕ) (at most : ℕ) → count-fault s at most ≡ None → (1 ≤ byte s at) × (byte s at ≤ most)

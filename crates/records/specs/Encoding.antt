@@ -13,10 +13,8 @@ use Rattle.records.specs.declared.reason.Refusal.{Refusal}
 use Rattle.records.specs.declared.target.Target.{Target}
 use Rattle.records.specs.declared.instruction.Instruction.{Instruction}
 use Rattle.records.specs.declared.instruction.Instruction.the-variants.{Const, Knob, Add, Sub, Mul, Sqr, Min, Shr}
-use Rattle.records.specs.declared.fields.Fields.{Fields}
-use Rattle.records.specs.Numbers.{bytes16, bytes32, signed16, signed32, Bytes}
+use Rattle.records.specs.Numbers.{bytes16, bytes32, signed16, signed32}
 use Rattle.records.specs.Rules.{Content, Keeps}
-use Rattle.records.specs.Verdicts.{verdict, content}
 
 -- the bytes of a side: its low end, its high end
 abbrev pub encode-side : Ends → List ℕ

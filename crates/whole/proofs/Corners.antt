@@ -8,7 +8,7 @@ use Rattle.std.specs.Numbers.{maxZ, minZ}
 use Rattle.std.proofs.shelf.Signed.{ints, clamps}
 use Rattle.std.proofs.shelf.Tests.{cases-cond}
 use Rattle.whole.specs.Corners.{least4, most4}
-use Rattle.whole.specs.Laws.{LeastOf, GreatestOf, OneOf}
+use Rattle.whole.specs.Laws.{LeastOf, GreatestOf}
 
 lesser-is : (a b z : ℤ) → z ≡ minZ a b → (z ≡ a) ⊎ (z ≡ b)
 lesser-is a b z e = ⊎-elim inr inl (cases-cond (ltZ b a) b a z e)

@@ -1,13 +1,13 @@
 use Prim.Native.Nat.{_<_, _≤_}
 use native.Mathlib.Omega.{arith}
-use mathlib.Core.Path.{_≡_, refl, sym, ap, subst, _∙_}
+use mathlib.Core.Path.{_≡_, sym, ap, _∙_}
 use mathlib.Core.List.{_++_}
-use lib.ListN.{length, getD, take, drop}
+use lib.ListN.{length, take, drop}
 use Rattle.boxes.specs.Views.{sides-of}
 use Rattle.std.proofs.shelf.Lists.{getD-take}
 use Rattle.ranges.specs.Kind.{Valid}
-use Rattle.std.specs.declared.option.Option.the-variants.{Some, None}
-use Rattle.jobs.specs.Registers.{Before, first, gives, program-of, registers}
+use Rattle.std.specs.declared.option.Option.the-variants.{Some}
+use Rattle.jobs.specs.Registers.{first, gives, program-of, registers}
 use Rattle.jobs.proofs.Holding.{region-sided, rows-hold}
 use Rattle.jobs.proofs.Turns.{turn-some, turn-none, turns-over, valid-more, rest-more, ends-with}
 use Rattle.jobs.proofs.Wiring.{program-long, program-wired, region-wired}

@@ -1,10 +1,8 @@
-use Prim.Native.Nat.{_<_, _≤_}
-use native.Mathlib.Omega.{arith}
-use mathlib.Core.Path.{_≡_, refl, sym, ap, subst, _∙_}
-use lib.ListN.{length, take}
+use Prim.Native.Nat.{_<_}
+use mathlib.Core.Path.{refl, subst}
 use Rattle.boxes.specs.Views.{sides-of}
 use Rattle.records.specs.declared.instruction.Instruction.the-variants.{Add, Sub, Mul, Sqr, Min, Shr}
-use Rattle.jobs.specs.Registers.{Before, gives}
+use Rattle.jobs.specs.Registers.{Before}
 use Rattle.jobs.proofs.Turns.{one-gives, two-gives, knob-gives}
 use Rattle.jobs.proofs.registers.evaluate_one.Needs as need
 

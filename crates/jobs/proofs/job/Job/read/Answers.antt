@@ -1,5 +1,5 @@
 -- The verdict on the fields, then that on the registers.
-use Prim.Native.Nat.{ℕ, _<_, _≤_}
+use Prim.Native.Nat.{_<_, _≤_}
 use native.Mathlib.Omega.{arith}
 use mathlib.Core.Path.{_≡_, sym, ap, subst, _∙_}
 use lib.ListN.{length}
@@ -8,9 +8,8 @@ use Rattle.std.specs.declared.result.Result.the-variants.{Ok, Err}
 use Rattle.records.specs.declared.reason.Reason.the-variants.{TooLarge}
 use Rattle.records.specs.declared.reason.Refusal.{Refusal}
 use Rattle.records.specs.Broken.{Told, at}
-use Rattle.records.specs.Layouts.{counts-in}
 use Rattle.records.specs.Rules.{Content}
-use Rattle.records.specs.Verdicts.{content, content-in}
+use Rattle.records.specs.Verdicts.{content}
 use Rattle.jobs.specs.Reading.{JobBroken, Leaves, held, verdict}
 use Rattle.jobs.specs.Registers.{program-of}
 use Rattle.jobs.proofs.Accepting.{all-within, exact-job, fields-refused, is-content, too-large}

@@ -1,6 +1,6 @@
 use mathlib.Core.Path.{_∙_}
 use native.Mathlib.Omega.{arith}
-use Rattle.std.proofs.shelf.Signed.{ints, clamps, toZ-ofZ}
+use Rattle.std.proofs.shelf.Signed.{ints}
 use Rattle.ranges.proofs.Fitting.{plain-at}
 use Rattle.ranges.proofs.plain_range.PlainRange.sub.Needs as need
 
