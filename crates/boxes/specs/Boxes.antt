@@ -12,6 +12,7 @@ pub record Ends : Type 0 where
   pub lo : ℤ
   pub hi : ℤ
 
+-- the number 0 alone
 abbrev pub nought : Ends
 nought = record { lo = pos 0; hi = pos 0 }
 

@@ -8,6 +8,7 @@ use Rattle.boxes.specs.declared.side.Side.{Side}
 use Rattle.boxes.specs.declared.region.Region.{Region}
 use Rattle.boxes.specs.Boxes.{Ends, good-side}
 
+-- the ends of a side
 abbrev pub ends-of : Side → Ends
 ends-of s = record { lo = s .low; hi = s .high }
 
@@ -15,6 +16,7 @@ ends-of s = record { lo = s .low; hi = s .high }
 abbrev pub sides-of : Region → List Ends
 sides-of r = map ends-of (take (r .knobs) (r .sides))
 
+-- the ends of a side that may be absent
 abbrev pub shown : Option Side → Option Ends
 shown None = None
 shown (Some s) = Some (ends-of s)

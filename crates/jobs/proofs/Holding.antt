@@ -21,7 +21,7 @@ use Rattle.ranges.specs.Hulls.{shifted, square}
 use Rattle.ranges.specs.Kind.{Kind, Lawful, Valid, Holds, Answer, Answered, Of-one, Of-two, Spans, Constant}
 use Rattle.records.specs.declared.instruction.Instruction.{Instruction}
 use Rattle.records.specs.declared.instruction.Instruction.the-variants.{Const, Knob, Add, Sub, Mul, Sqr, Min, Shr}
-use Rattle.jobs.specs.Registers.{Before, Wired, expected, first, gives, no-row, registers, value, values}
+use Rattle.jobs.specs.Registers.{Before, Wired, expected, no-instruction, gives, no-row, registers, value, values}
 use Rattle.jobs.specs.Meaning.{RowsHold, knob-at, register}
 use Rattle.jobs.proofs.Fills.{fill-at, fill-upto}
 use Rattle.jobs.proofs.Values.{by-those-below, values-at}
@@ -92,12 +92,12 @@ module _ (k : Kind) (L : Lawful k) (program : List Instruction) (box : List Ends
   below-length j h = let u = fill-upto (gives k box) program in omega arith
 
   -- each row is its instruction's answer
-  pub reg-at : (j : ℕ) → j < length Reg → Some (getD Reg j no-row) ≡ gives k box (getD program j first) Reg
-  reg-at j h = fill-at (gives k box) program first no-row j h ∙ gives-taken k box (length box) j Reg (getD program j first) (w j (below-length j h))
+  pub reg-at : (j : ℕ) → j < length Reg → Some (getD Reg j no-row) ≡ gives k box (getD program j no-instruction) Reg
+  reg-at j h = fill-at (gives k box) program no-instruction no-row j h ∙ gives-taken k box (length box) j Reg (getD program j no-instruction) (w j (below-length j h))
 
-  pub reg-answered : (j : ℕ) → j < length Reg → Answered k (expected box (getD program j first) Reg) (Results k box (getD program j first) Reg) (getD Reg j no-row)
-  reg-answered = by-those-below (λ j. j < length Reg → Answered k (expected box (getD program j first) Reg) (Results k box (getD program j first) Reg) (getD Reg j no-row)) (λ j below h.
-      let i = getD program j first in
+  pub reg-answered : (j : ℕ) → j < length Reg → Answered k (expected box (getD program j no-instruction) Reg) (Results k box (getD program j no-instruction) Reg) (getD Reg j no-row)
+  reg-answered = by-those-below (λ j. j < length Reg → Answered k (expected box (getD program j no-instruction) Reg) (Results k box (getD program j no-instruction) Reg) (getD Reg j no-row)) (λ j below h.
+      let i = getD program j no-instruction in
       subst (Answer k (expected box i Reg) (Results k box i Reg)) (sym (reg-at j h)) (gives-answer k L box sided i j Reg (w j (below-length j h)) (λ a q. below a q (omega arith) .valid)))
 
   pub reg-valid : (j : ℕ) → j < length Reg → Valid k (getD Reg j no-row)
@@ -124,7 +124,7 @@ module _ (k : Kind) (L : Lawful k) (program : List Instruction) (box : List Ends
     reg-holds = by-those-below (λ j. j < length Reg → Holds k (getD Reg j no-row) (getD Val j (pos 0))) (λ j below h.
         let b = w j (below-length j h) in
         let e = values-at program (knob-at s) (length box) w j (below-length j h) in
-        subst (λ z. Holds k (getD Reg j no-row) z) (sym e) (reg-answered j h .holds (value (knob-at s) (getD program j first) Val) (value-result (getD program j first) j b (λ a q. below a q (omega arith)))))
+        subst (λ z. Holds k (getD Reg j no-row) z) (sym e) (reg-answered j h .holds (value (knob-at s) (getD program j no-instruction) Val) (value-result (getD program j no-instruction) j b (λ a q. below a q (omega arith)))))
 
   -- and so do the rows that begin with these
   pub rows-hold : (n : ℕ) (rows rest : List Row) → n ≡ length Reg → rows ≡ Reg ++ rest → RowsHold k program box n rows

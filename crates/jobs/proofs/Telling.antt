@@ -18,7 +18,7 @@ use Rattle.records.proofs.Firsts.{broken-stage}
 use Rattle.records.proofs.Ranks.{later-place, later-stage}
 use Rattle.jobs.specs.Reading.{JobBroken, Leaves, held}
 use Rattle.jobs.specs.Reading.JobBroken.{in-fields, in-registers}
-use Rattle.jobs.specs.Registers.{expected, first, gives, registers}
+use Rattle.jobs.specs.Registers.{expected, no-instruction, gives, registers}
 use Rattle.jobs.proofs.Fills.{fill-stops}
 use Rattle.jobs.proofs.Holding.{Results, gives-answer, reg-valid}
 use Rattle.jobs.proofs.Taming.{sided}
@@ -29,13 +29,13 @@ pub leaving : (c : Content) → Keeps c → held c < length (c .program) → Lea
 leaving c g h =
     let box = c .sides in
     let rows = registers plain-kind (c .program) box in
-    let i = getD (c .program) (held c) first in
+    let i = getD (c .program) (held c) no-instruction in
     let w = wired (length box) (c .program) (g .programmed) in
     let a = gives-answer plain-kind plain-lawful box (sided c g) i (held c) rows (w (held c) h) (λ k l. reg-valid plain-kind plain-lawful (c .program) box (sided c g) w k l) in
     record {
       there = h;
       before = refl;
-      leaves = subst (Answer plain-kind (expected box i rows) (Results plain-kind box i rows)) (fill-stops (gives plain-kind box) (c .program) first h) a;
+      leaves = subst (Answer plain-kind (expected box i rows) (Results plain-kind box i rows)) (fill-stops (gives plain-kind box) (c .program) no-instruction h) a;
     }
 
 module _ (s : List ℕ) where

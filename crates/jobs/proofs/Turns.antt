@@ -17,7 +17,7 @@ use Rattle.ranges.specs.declared.row.Row.{Row}
 use Rattle.ranges.specs.Kind.{Kind, Lawful}
 use Rattle.records.specs.declared.instruction.Instruction.{Instruction}
 use Rattle.records.specs.declared.instruction.Instruction.the-variants.{Knob}
-use Rattle.jobs.specs.Registers.{onward, fill, gives, Before, AllValid, no-row, first}
+use Rattle.jobs.specs.Registers.{onward, fill, gives, Before, AllValid, no-row, no-instruction}
 
 module _ (k : Kind) (L : Lawful k) (box : List Ends) (m n : ℕ) (rows : List Row) (v : AllValid k rows n) where
   -- an earlier row gives its range back
@@ -46,14 +46,14 @@ module _ (k : Kind) (L : Lawful k) (box : List Ends) (m n : ℕ) (rows : List Ro
       s ∙ ap f (operand a x u p) ∙ is a (take n rows) ∙ ap (λ z. gives k box z (take n rows)) (sym e)
 
 module _ (k : Kind) (box : List Ends) (code : List Instruction) (rows : List Row) (n : ℕ) where
-  turn : n < length code → fill (gives k box) (drop n code) (take n rows) ≡ onward (take n rows) (fill (gives k box) (drop (n + 1) code)) (gives k box (getD code n first) (take n rows))
+  turn : n < length code → fill (gives k box) (drop n code) (take n rows) ≡ onward (take n rows) (fill (gives k box) (drop (n + 1) code)) (gives k box (getD code n no-instruction) (take n rows))
   unfolding fill
-  turn h = at-drop-more (λ c. fill (gives k box) c (take n rows)) code n first h
+  turn h = at-drop-more (λ c. fill (gives k box) c (take n rows)) code n no-instruction h
 
-  pub turn-some : (r : Row) → n < length code → n < length rows → Some r ≡ gives k box (getD code n first) (take n rows) → fill (gives k box) (drop n code) (take n rows) ≡ fill (gives k box) (drop (n + 1) code) (take (n + 1) (set rows n r))
+  pub turn-some : (r : Row) → n < length code → n < length rows → Some r ≡ gives k box (getD code n no-instruction) (take n rows) → fill (gives k box) (drop n code) (take n rows) ≡ fill (gives k box) (drop (n + 1) code) (take (n + 1) (set rows n r))
   turn-some r h m g = turn h ∙ ap (onward (take n rows) (fill (gives k box) (drop (n + 1) code))) (sym g) ∙ ap (fill (gives k box) (drop (n + 1) code)) (sym (take-more-set rows n r m))
 
-  pub turn-none : n < length code → None ≡ gives k box (getD code n first) (take n rows) → fill (gives k box) (drop n code) (take n rows) ≡ take n rows
+  pub turn-none : n < length code → None ≡ gives k box (getD code n no-instruction) (take n rows) → fill (gives k box) (drop n code) (take n rows) ≡ take n rows
   turn-none h g = turn h ∙ ap (onward (take n rows) (fill (gives k box) (drop (n + 1) code))) (sym g)
 
   pub turns-over : length code ≤ n → fill (gives k box) (drop n code) (take n rows) ≡ take n rows

@@ -13,7 +13,7 @@ use Rattle.std.specs.declared.option.Option.the-variants.{Some}
 use Rattle.ranges.specs.Hulls.{shifted, square}
 use Rattle.records.specs.declared.instruction.Instruction.{Instruction}
 use Rattle.records.specs.declared.instruction.Instruction.the-variants.{Const, Knob, Add, Sub, Mul, Sqr, Min, Shr}
-use Rattle.jobs.specs.Registers.{Before, Wired, first, value, values}
+use Rattle.jobs.specs.Registers.{Before, Wired, no-instruction, value, values}
 use Rattle.jobs.specs.Meaning.{OneSolution, Solves}
 use Rattle.jobs.proofs.Fills.{fill-at, fill-stops, fill-upto}
 
@@ -43,22 +43,22 @@ module _ (knob : ℕ → ℤ) (vs ws : List ℤ) (n j : ℕ) (same : (a : ℕ) �
 module _ (program : List Instruction) (knob : ℕ → ℤ) where
   pub values-length : length (values program knob) ≡ length program
   values-length = ⊎-elim
-      (λ (h : length (values program knob) < length program). let e = fill-stops (λ i vs. Some (value knob i vs)) program first h in let z : _≡_ {A = ℕ} 0 1 = cc in absurd (omega arith))
+      (λ (h : length (values program knob) < length program). let e = fill-stops (λ i vs. Some (value knob i vs)) program no-instruction h in let z : _≡_ {A = ℕ} 0 1 = cc in absurd (omega arith))
       (λ (h : length program ≤ length (values program knob)). let u = fill-upto (λ i vs. Some (value knob i vs)) program in omega arith)
       (cases-lt (length (values program knob)) (length program))
 
   module _ (n : ℕ) (w : Wired n program) where
     -- each value by those before it
-    pub values-at : (j : ℕ) → j < length program → getD (values program knob) j (pos 0) ≡ value knob (getD program j first) (values program knob)
+    pub values-at : (j : ℕ) → j < length program → getD (values program knob) j (pos 0) ≡ value knob (getD program j no-instruction) (values program knob)
     values-at j h =
         let l = values-length in
-        let e = fill-at (λ i vs. Some (value knob i vs)) program first (pos 0) j (omega arith) in
-        let q : getD (values program knob) j (pos 0) ≡ value knob (getD program j first) (take j (values program knob)) = cc in
-        q ∙ value-same knob (take j (values program knob)) (values program knob) n j (λ a b. getD-take j (values program knob) a (pos 0) b) (getD program j first) (w j h)
+        let e = fill-at (λ i vs. Some (value knob i vs)) program no-instruction (pos 0) j (omega arith) in
+        let q : getD (values program knob) j (pos 0) ≡ value knob (getD program j no-instruction) (take j (values program knob)) = cc in
+        q ∙ value-same knob (take j (values program knob)) (values program knob) n j (λ a b. getD-take j (values program knob) a (pos 0) b) (getD program j no-instruction) (w j h)
 
     only-values : (vs : List ℤ) → Solves program knob vs → (j : ℕ) → j < length program → getD vs j (pos 0) ≡ getD (values program knob) j (pos 0)
     only-values vs s = by-those-below (λ j. j < length program → getD vs j (pos 0) ≡ getD (values program knob) j (pos 0)) (λ j below h.
-        s .each j h ∙ value-same knob vs (values program knob) n j (λ a b. below a b (omega arith)) (getD program j first) (w j h) ∙ sym (values-at j h))
+        s .each j h ∙ value-same knob vs (values program knob) n j (λ a b. below a b (omega arith)) (getD program j no-instruction) (w j h) ∙ sym (values-at j h))
 
 pub one-solution : OneSolution
 one-solution n program w knob =

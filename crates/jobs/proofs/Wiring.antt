@@ -15,7 +15,7 @@ use Rattle.records.specs.declared.instruction.Instruction.{Instruction}
 use Rattle.records.specs.declared.instruction.Instruction.the-variants.{Const, Knob, Add, Sub, Mul, Sqr, Min, Shr}
 use Rattle.records.specs.Rules.{good-instruction, good-program}
 use Rattle.records.proofs.Runs.{every-at}
-use Rattle.jobs.specs.Registers.{Before, Wired, first, program-of}
+use Rattle.jobs.specs.Registers.{Before, Wired, no-instruction, program-of}
 
 below-two : (a b k : ℕ) → (ltb a k && ltb b k) ≡ true → (a < k) × (b < k)
 below-two a b k e = let p = and-parts (ltb a k) (ltb b k) e in (ltb-true a k (p .0), ltb-true b k (p .1))
@@ -34,17 +34,17 @@ before n k (Shr a b) e = ltb-true a k (and-parts (ltb a k) (ltb b 31) e .0)
 pub wired : (n : ℕ) (program : List Instruction) → good-program n program ≡ true → Wired n program
 wired n program e k h =
     let q : 0 + k ≡ k = omega arith in
-    before n k (getD program k first) (subst (λ j. good-instruction n j (getD program k first) ≡ true) q (every-at (good-instruction n) 0 program first e k h))
+    before n k (getD program k no-instruction) (subst (λ j. good-instruction n j (getD program k no-instruction) ≡ true) q (every-at (good-instruction n) 0 program no-instruction e k h))
 
 -- the program of a job is as long as its count says, and its instructions are those of the table
 pub program-long : (f : Fields) → length (program-of f) ≡ f .registers
 program-long f = length-take-le (f .registers) (f .program) (f .room)
 
-pub program-wired : (f : Fields) (n k : ℕ) → n ≡ f .start .knobs → k < f .registers → Before n k (getD (f .program) k first)
+pub program-wired : (f : Fields) (n k : ℕ) → n ≡ f .start .knobs → k < f .registers → Before n k (getD (f .program) k no-instruction)
 program-wired f n k q h =
     let l = program-long f in
     let w = wired (f .start .knobs) (program-of f) (f .programmed) k (omega arith) in
-    rw (q, ← getD-take (f .registers) (f .program) k first h) w
+    rw (q, ← getD-take (f .registers) (f .program) k no-instruction h) w
 
 -- so are its targets and the sides of its start box
 pub targets-long : (f : Fields) → length (take (f .goals) (f .targets)) ≡ f .goals

@@ -2,16 +2,17 @@
 use Prim.Native.Nat.{ℕ, _<_}
 use mathlib.Core.Path.{_≡_}
 use mathlib.Core.List.{List}
-use lib.IntN.{ℤ, pos, negsuc}
+use lib.IntN.{ℤ, pos}
 use lib.ListN.{length, getD}
 use lib.Signed.{_≤ℤ_}
 use Rattle.boxes.specs.Boxes.{Ends, In}
 use Rattle.ranges.specs.declared.row.Row.{Row}
+use Rattle.ranges.specs.Bounds.{Bounded, point}
 use Rattle.ranges.specs.Kind.{Holds, Kind}
 use Rattle.records.specs.declared.instruction.Instruction.{Instruction}
 use Rattle.records.specs.declared.target.Target.{Target}
 use Rattle.records.specs.Rules.{Content}
-use Rattle.jobs.specs.Registers.{Wired, first, no-row, value, values}
+use Rattle.jobs.specs.Registers.{Wired, no-instruction, no-row, value, values}
 
 -- what each knob reads at a setting
 abbrev pub knob-at : List ℤ → ℕ → ℤ
@@ -41,18 +42,13 @@ Meets c setting = (n : ℕ) → n < length (c .targets) → Hits (c .program) se
 -- the values solve the program: there is one for each instruction, and each is what its instruction makes of the others
 pub record Solves (program : List Instruction) (knob : ℕ → ℤ) (vs : List ℤ) : Type 0 where
   pub long : length vs ≡ length program
-  pub each : (k : ℕ) → k < length program → getD vs k (pos 0) ≡ value knob (getD program k first) vs
+  pub each : (k : ℕ) → k < length program → getD vs k (pos 0) ≡ value knob (getD program k no-instruction) vs
 
 -- the values of a program's registers solve it, and nothing else does
 abbrev pub OneSolution : Type 0
 OneSolution = (n : ℕ) (program : List Instruction) → Wired n program → (knob : ℕ → ℤ) →
     Solves program knob (values program knob) × ((vs : List ℤ) → Solves program knob vs → vs ≡ values program knob)
 
--- a number within 2^30 on either side of 0
-pub record Moderate (x : ℤ) : Type 0 where
-  pub above : negsuc 1073741823 ≤ℤ x
-  pub below : x ≤ℤ pos 1073741824
-
 -- at every setting of the start box every register is within the bound
 abbrev pub Tame : Content → Type 0
-Tame c = (setting : List ℤ) → In (c .sides) setting → (k : ℕ) → k < length (c .program) → Moderate (register (c .program) setting k)
+Tame c = (setting : List ℤ) → In (c .sides) setting → (k : ℕ) → k < length (c .program) → Bounded (point (register (c .program) setting k))

@@ -17,7 +17,7 @@ use Rattle.records.specs.Rules.{Content, Keeps}
 use Rattle.records.specs.Layouts.{counts-in}
 use Rattle.records.specs.Verdicts.{content, content-in, fault}
 use Rattle.jobs.specs.declared.job.Job.{Job}
-use Rattle.jobs.specs.Registers.{expected, first, registers}
+use Rattle.jobs.specs.Registers.{expected, no-instruction, registers}
 
 -- what a job says
 abbrev pub content-of : Job → Content
@@ -43,7 +43,7 @@ verdict s = unless (job-fault s) (content-in s (counts-in s))
 pub record Leaves (c : Content) (k : ℕ) : Type 0 where
   pub there : k < length (c .program)
   pub before : held c ≡ k
-  pub leaves : Bounded (expected (c .sides) (getD (c .program) k first) (registers plain-kind (c .program) (c .sides))) → ⊥
+  pub leaves : Bounded (expected (c .sides) (getD (c .program) k no-instruction) (registers plain-kind (c .program) (c .sides))) → ⊥
 
 -- the rules that a byte string breaks as the record of a job: those of its fields, and that no register leaves the bound
 pub data JobBroken (s : List ℕ) : Refusal → Type 0 where

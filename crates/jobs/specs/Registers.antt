@@ -19,6 +19,7 @@ use Rattle.records.specs.declared.instruction.Instruction.the-variants.{Const, 
 abbrev pub program-of : Fields → List Instruction
 program-of f = take (f .registers) (f .program)
 
+-- what is done with an answer: with none, xs is all; with one, it goes on behind it
 abbrev pub onward : {A : Type 0} → List A → (List A → List A) → Option A → List A
 onward xs f None = xs
 onward xs f (Some x) = f (xs ++ (x ∷ []))
@@ -85,12 +86,12 @@ Before n k (Min a b) = (a < k) × (b < k)
 Before n k (Shr a b) = a < k
 
 -- the instruction in the place of none
-abbrev pub first : Instruction
-first = Const (pos 0)
+abbrev pub no-instruction : Instruction
+no-instruction = Const (pos 0)
 
 -- each instruction names knobs that there are and registers before its own
 abbrev pub Wired : ℕ → List Instruction → Type 0
-Wired n program = (k : ℕ) → k < length program → Before n k (getD program k first)
+Wired n program = (k : ℕ) → k < length program → Before n k (getD program k no-instruction)
 
 -- the first n rows are rows of the kind
 abbrev pub AllValid : Kind → List Row → ℕ → Type 0

@@ -4,12 +4,14 @@ use mathlib.Core.Bool.{cond}
 use lib.IntN.{ℤ, pos, _+ℤ_, _-ℤ_, _*ℤ_}
 use lib.Signed.{leZ, shrZ}
 use Rattle.std.specs.Numbers.{maxZ, minZ}
-use Rattle.whole.specs.Corners.{least4, most4}
+use Rattle.whole.specs.Corners.{least4, greatest4}
 use Rattle.boxes.specs.Boxes.{Ends}
 
+-- low ends added, high ends added
 abbrev pub ends-add : Ends → Ends → Ends
 ends-add a b = record { lo = a .lo +ℤ b .lo; hi = a .hi +ℤ b .hi }
 
+-- each end less the other operand's opposite end
 abbrev pub ends-sub : Ends → Ends → Ends
 ends-sub a b = record { lo = a .lo -ℤ b .hi; hi = a .hi -ℤ b .lo }
 
@@ -17,9 +19,10 @@ ends-sub a b = record { lo = a .lo -ℤ b .hi; hi = a .hi -ℤ b .lo }
 abbrev pub ends-mul : Ends → Ends → Ends
 ends-mul a b = record {
   lo = least4 (a .lo *ℤ b .lo) (a .lo *ℤ b .hi) (a .hi *ℤ b .lo) (a .hi *ℤ b .hi);
-  hi = most4 (a .lo *ℤ b .lo) (a .lo *ℤ b .hi) (a .hi *ℤ b .lo) (a .hi *ℤ b .hi);
+  hi = greatest4 (a .lo *ℤ b .lo) (a .lo *ℤ b .hi) (a .hi *ℤ b .lo) (a .hi *ℤ b .hi);
 }
 
+-- a number times itself
 abbrev pub square : ℤ → ℤ
 square x = x *ℤ x
 
@@ -27,9 +30,11 @@ square x = x *ℤ x
 abbrev pub low-square : ℤ → ℤ → ℤ
 low-square l h = cond (leZ (pos 0) l) (square l) (cond (leZ h (pos 0)) (square h) (pos 0))
 
+-- from the least square to the greater of the ends' squares
 abbrev pub ends-sqr : Ends → Ends
 ends-sqr a = record { lo = low-square (a .lo) (a .hi); hi = maxZ (square (a .lo)) (square (a .hi)) }
 
+-- the lesser of the low ends, the lesser of the high ends
 abbrev pub ends-min : Ends → Ends → Ends
 ends-min a b = record { lo = minZ (a .lo) (b .lo); hi = minZ (a .hi) (b .hi) }
 
@@ -37,5 +42,6 @@ ends-min a b = record { lo = minZ (a .lo) (b .lo); hi = minZ (a .hi) (b .hi) }
 abbrev pub shifted : ℕ → ℤ → ℤ
 shifted b z = shrZ z (2 ^ min b 30)
 
+-- both ends shifted
 abbrev pub ends-shr : ℕ → Ends → Ends
 ends-shr b a = record { lo = shifted b (a .lo); hi = shifted b (a .hi) }

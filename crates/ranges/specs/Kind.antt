@@ -35,9 +35,11 @@ pub record Kind : Type 0 where
   -- the row that any row is taken as
   pub fixed : Row → Row
 
+-- the row is the row of a range of the kind
 abbrev pub Valid : Kind → Row → Type 0
 Valid k r = k .valid r ≡ true
 
+-- the range of the row holds the number
 abbrev pub Holds : Kind → Row → ℤ → Type 0
 Holds k r x = k .holds r x ≡ true
 
@@ -71,10 +73,11 @@ pub record Of-two (k : Kind) (f : ℤ → ℤ → ℤ) (a b : Row) (z : ℤ) : T
   pub in-b : Holds k b y
   pub is : z ≡ f x y
 
--- op answers for f, of one operand and of two
+-- op answers for f of one operand
 abbrev pub One : Kind → (ℤ → ℤ) → (Ends → Ends) → (Row → Option Row) → Type 0
 One k f e op = (a : Row) → Valid k a → Answer k (e (ends a)) (Of-one k f a) (op a)
 
+-- op answers for f of two operands
 abbrev pub Two : Kind → (ℤ → ℤ → ℤ) → (Ends → Ends → Ends) → (Row → Row → Option Row) → Type 0
 Two k f e op = (a b : Row) → Valid k a → Valid k b → Answer k (e (ends a) (ends b)) (Of-two k f a b) (op a b)
 

@@ -21,12 +21,15 @@ abbrev pub Least : (ℤ → Type 0) → Option Row → Type 0
 Least P None = (d : Row) → Covers P d → ⊥
 Least P (Some c) = Covers P c × ((d : Row) → Covers P d → Inside (ends c) (ends d))
 
+-- op answers the least for f of one operand
 abbrev pub LeastOne : (ℤ → ℤ) → (Row → Option Row) → Type 0
 LeastOne f op = (a : Row) → Valid plain-kind a → Least (Of-one plain-kind f a) (op a)
 
+-- op answers the least for f of two operands
 abbrev pub LeastTwo : (ℤ → ℤ → ℤ) → (Row → Row → Option Row) → Type 0
 LeastTwo f op = (a b : Row) → Valid plain-kind a → Valid plain-kind b → Least (Of-two plain-kind f a b) (op a b)
 
+-- every answer of the plain kind is the least
 pub record LeastAnswers : Type 0 where
   pub constants : (c : ℤ) → Least (λ z. z ≡ c) (plain-kind .constant c)
   pub sums : LeastTwo _+ℤ_ (plain-kind .add)
@@ -47,12 +50,15 @@ pub record Within (a b : Row) : Type 0 where
   pub large : Valid plain-kind b
   pub inside : Inside (ends a) (ends b)
 
+-- op grows with its operand
 abbrev pub GrowsOne : (Row → Option Row) → Type 0
 GrowsOne op = (a b : Row) → Within a b → Grows (op a) (op b)
 
+-- op grows with its two operands
 abbrev pub GrowsTwo : (Row → Row → Option Row) → Type 0
 GrowsTwo op = (a b a' b' : Row) → Within a b → Within a' b' → Grows (op a a') (op b b')
 
+-- every answer of the plain kind grows with its operands
 pub record GrowingAnswers : Type 0 where
   pub sums : GrowsTwo (plain-kind .add)
   pub differences : GrowsTwo (plain-kind .sub)

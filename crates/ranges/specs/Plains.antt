@@ -14,6 +14,7 @@ use Rattle.ranges.specs.Kind.{Kind, Keeper, ends}
 use Rattle.ranges.specs.declared.plain.Plain.{Plain}
 use Rattle.ranges.specs.declared.row.Row.{Row}
 
+-- the plain row with these ends
 abbrev pub row-of : Ends → Row
 row-of e = record { low = e .lo; high = e .hi; step = 0 }
 
@@ -29,6 +30,7 @@ plain e = cond (fit e) (Some (row-of e)) None
 abbrev pub plain-row : Plain → Row
 plain-row p = row-of (record { lo = p .low; hi = p .high })
 
+-- the plain kind: each operation answers the plain answer, if it is within the bound
 abbrev pub plain-kind : Kind
 plain-kind = record {
   valid = λ r. fit (ends r) && eqb (r .step) 0;
@@ -46,6 +48,7 @@ plain-kind = record {
   fixed = λ r. valueOr (plain (ends r)) (row-of nought);
 }
 
+-- what a plain range keeps: the numbers from the greater low end to the lesser high end
 abbrev pub plain-keeper : Keeper
 plain-keeper = record {
   kept = λ a x y. plain (record { lo = maxZ (a .low) x; hi = minZ (a .high) y });

@@ -7,7 +7,7 @@ use lib.Signed.{ltZ}
 use Rattle.std.specs.Numbers.{maxZ, minZ}
 use Rattle.std.proofs.shelf.Signed.{ints, clamps}
 use Rattle.std.proofs.shelf.Tests.{cases-cond}
-use Rattle.whole.specs.Corners.{least4, most4}
+use Rattle.whole.specs.Corners.{least4, greatest4}
 use Rattle.whole.specs.Laws.{LeastOf, GreatestOf}
 
 lesser-is : (a b z : ℤ) → z ≡ minZ a b → (z ≡ a) ⊎ (z ≡ b)
@@ -25,7 +25,7 @@ least-of a b c d r e = record {
   fourth = omega (arith, ints, clamps);
 }
 
-pub greatest-of : (a b c d r : ℤ) → r ≡ most4 a b c d → GreatestOf a b c d r
+pub greatest-of : (a b c d r : ℤ) → r ≡ greatest4 a b c d → GreatestOf a b c d r
 greatest-of a b c d r e = record {
   one = ⊎-elim (λ p. inl (greater-is a b r p)) (λ p. inr (greater-is c d r p)) (greater-is (maxZ a b) (maxZ c d) r e);
   first = omega (arith, ints, clamps);

@@ -11,7 +11,7 @@ use borrow.Author.Differences.{up, down, le-out, sum-is, product-is}
 use Rattle.std.proofs.shelf.Signed.{ints, clamps, by-ltZ}
 use Rattle.std.specs.Numbers.{maxZ, minZ}
 use Rattle.whole.specs.Laws.{Amid}
-use Rattle.whole.specs.Corners.{least4, most4}
+use Rattle.whole.specs.Corners.{least4, greatest4}
 
 -- an order and its test
 pub is-le : (a b : ℤ) → a ≤ℤ b → leZ a b ≡ true
@@ -59,7 +59,7 @@ amid-of : (l p h l' q h' z : ℤ) → Amid l p h → Amid l' q h' → Amid (minZ
 amid-of l p h l' q h' z a b c = omega (arith, ints, clamps)
 
 pub amid-mul4 : (a x b c y d : ℤ) → Amid a x b → Amid c y d →
-    Amid (least4 (a *ℤ c) (a *ℤ d) (b *ℤ c) (b *ℤ d)) (x *ℤ y) (most4 (a *ℤ c) (a *ℤ d) (b *ℤ c) (b *ℤ d))
+    Amid (least4 (a *ℤ c) (a *ℤ d) (b *ℤ c) (b *ℤ d)) (x *ℤ y) (greatest4 (a *ℤ c) (a *ℤ d) (b *ℤ c) (b *ℤ d))
 amid-mul4 a x b c y d h k = amid-of _ _ _ _ _ _ _ (amid-mul' c y d a k) (amid-mul' c y d b k) (amid-mul a x b y h)
 
 pub square-up : (x y : ℤ) → pos 0 ≤ℤ x → x ≤ℤ y → (x *ℤ x) ≤ℤ (y *ℤ y)

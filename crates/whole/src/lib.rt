@@ -10,7 +10,7 @@ ghost use mathlib.Core.Path.{_≡_};
 ghost use Prim.Native.Nat.{_^_, min};
 ghost use lib.IntN.{ℤ, pos, negsuc, _*ℤ_};
 ghost use lib.Signed.{_≤ℤ_, shrZ};
-ghost use Rattle.whole.specs.Corners.{least4, most4};
+ghost use Rattle.whole.specs.Corners.{least4, greatest4};
 ghost use Rattle.whole.specs.Laws.{LeastOf, GreatestOf, RoundedDown, RoundedUp, GreatestRoot, LeastRoot};
 ghost use Rattle.whole.specs.Quotients.{floor, ceiling};
 ghost use Rattle.whole.specs.Roots.{root-down, root-up};
@@ -32,7 +32,7 @@ pub fn least(a: i64, b: i64, c: i64, d: i64) -> i64
 
 /// The greatest of four.
 pub fn greatest(a: i64, b: i64, c: i64, d: i64) -> i64
-    ensures value { λ r. ⌜ r ≡ most4 a b c d ⌝ }
+    ensures value { λ r. ⌜ r ≡ greatest4 a b c d ⌝ }
     ensures greatest { λ r. ⌜ GreatestOf a b c d r ⌝ }
 {
     a.max(b).max(c.max(d))

@@ -7,7 +7,7 @@ use Rattle.boxes.specs.Views.{sides-of}
 use Rattle.std.proofs.shelf.Lists.{getD-take}
 use Rattle.ranges.specs.Kind.{Valid}
 use Rattle.std.specs.declared.option.Option.the-variants.{Some}
-use Rattle.jobs.specs.Registers.{first, gives, program-of, registers}
+use Rattle.jobs.specs.Registers.{no-instruction, gives, program-of, registers}
 use Rattle.jobs.proofs.Holding.{region-sided, rows-hold}
 use Rattle.jobs.proofs.Turns.{turn-some, turn-none, turns-over, valid-more, rest-more, ends-with}
 use Rattle.jobs.proofs.Wiring.{program-long, program-wired, region-wired}
@@ -30,7 +30,7 @@ returns-in-None g c =
     let k = c .loop-k .k in
     let l = program-long f in
     let n : k ≤ length rows = omega arith in
-    let t = c .in-None .ensures tt ∙ ap (λ i. gives m box i (take k rows)) (sym (getD-take (f .registers) (f .program) k first (c .loop-k-test .taken))) in
+    let t = c .in-None .ensures tt ∙ ap (λ i. gives m box i (take k rows)) (sym (getD-take (f .registers) (f .program) k no-instruction (c .loop-k-test .taken))) in
     let e = sym (c .loop-k .inv .1) ∙ turn-none m box code rows k (omega arith) t in
     let w = ends-with (registers m code box) rows (c .args .rows .now) k n e (c .loop-k .inv .2) in
     record {
@@ -52,7 +52,7 @@ loop-k-again g c =
     let l = program-long f in
     let n : k < length rows = omega arith in
     let v : Valid m r = ap (m .valid) (c .to-row .ensures) ∙ g .R·Range·met .valid (c .in-Some .r) in
-    let t = ap Some (c .to-row .ensures) ∙ c .in-Some .ensures tt ∙ ap (λ i. gives m box i (take k rows)) (sym (getD-take (f .registers) (f .program) k first (c .loop-k-test .taken))) in (
+    let t = ap Some (c .to-row .ensures) ∙ c .in-Some .ensures tt ∙ ap (λ i. gives m box i (take k rows)) (sym (getD-take (f .registers) (f .program) k no-instruction (c .loop-k-test .taken))) in (
       valid-more (Valid m) rows k r n (c .loop-k .inv .0) v,
       sym (turn-some m box code rows k r (omega arith) n t) ∙ c .loop-k .inv .1,
       rest-more rows (c .args .rows .now) k r (c .loop-k .inv .2),
