@@ -24,22 +24,22 @@ use Rattle.records.proofs.Complete.{encoding-is-accepted}
 use Rattle.records.proofs.Encoded.{accepted-is-encoding}
 use Rattle.records.proofs.Exactly.{exact-by}
 use Rattle.jobs.specs.declared.job.Job.{Job}
-use Rattle.jobs.specs.Reading.{RecordOf, Sound, content-of, held, job-fault, large-fault, verdict}
+use Rattle.jobs.specs.Reading.{RecordOf, Sound, content-of, bounded-upto, job-fault, large-fault, verdict}
 use Rattle.jobs.specs.Registers.{gives}
 use Rattle.jobs.proofs.Fills.{fill-upto}
 
 -- a job with a register that is too large has that fault, and others have none
-large-is : (c : Content) → held c < length (c .program) → large-fault c ≡ Some (record { reason = TooLarge; place = held c })
-large-is c h = rw (lt-ltb (held c) (length (c .program)) h)
+large-is : (c : Content) → bounded-upto c < length (c .program) → large-fault c ≡ Some (record { reason = TooLarge; place = bounded-upto c })
+large-is c h = rw (lt-ltb (bounded-upto c) (length (c .program)) h)
 
-large-none : (c : Content) → length (c .program) ≤ held c → large-fault c ≡ None
-large-none c h = rw (le-ltb (held c) (length (c .program)) h)
+large-none : (c : Content) → length (c .program) ≤ bounded-upto c → large-fault c ≡ None
+large-none c h = rw (le-ltb (bounded-upto c) (length (c .program)) h)
 
-all-held : (c : Content) → large-fault c ≡ None → held c ≡ length (c .program)
-all-held c e = ⊎-elim
-    (λ (h : held c < length (c .program)). let t = large-is c h in let z : _≡_ {A = ℕ} 0 1 = cc in absurd (omega arith))
-    (λ (h : length (c .program) ≤ held c). let u = fill-upto (gives plain-kind (c .sides)) (c .program) in omega arith)
-    (cases-lt (held c) (length (c .program)))
+all-bounded : (c : Content) → large-fault c ≡ None → bounded-upto c ≡ length (c .program)
+all-bounded c e = ⊎-elim
+    (λ (h : bounded-upto c < length (c .program)). let t = large-is c h in let z : _≡_ {A = ℕ} 0 1 = cc in absurd (omega arith))
+    (λ (h : length (c .program) ≤ bounded-upto c). let u = fill-upto (gives plain-kind (c .sides)) (c .program) in omega arith)
+    (cases-lt (bounded-upto c) (length (c .program)))
 
 -- fields that are refused are refused
 pub fields-refused : (s : List ℕ) (d : Refusal) → Err d ≡ fields-verdict s → Err d ≡ verdict s
@@ -55,10 +55,10 @@ module _ (s : List ℕ) (c : Content) (e : Ok c ≡ fields-verdict s) where
       went (fault s) (large-fault (content-in s (counts-in s))) (content-in s (counts-in s)) c (content-in s (counts-in s)) e
       ∙ ap (λ x. unless (large-fault x) x) (sym is-content)
 
-  pub too-large : held c < length (c .program) → Err (record { reason = TooLarge; place = held c }) ≡ verdict s
+  pub too-large : bounded-upto c < length (c .program) → Err (record { reason = TooLarge; place = bounded-upto c }) ≡ verdict s
   too-large h = sym (judged ∙ ap (λ o. unless o c) (large-is c h))
 
-  pub all-within : length (c .program) ≤ held c → Ok c ≡ verdict s
+  pub all-within : length (c .program) ≤ bounded-upto c → Ok c ≡ verdict s
   all-within h = sym (judged ∙ ap (λ o. unless o c) (large-none c h))
 
 -- a byte string that is accepted is the record of what was read, which keeps every rule
@@ -71,7 +71,7 @@ accepted-is-record s c b e =
     let l = none-right (fault s) (large-fault x) n in
     let t : fields-verdict s ≡ Ok c = ap (λ o. unless o x) f ∙ ap Ok (sym v) in
     let r = accepted-is-encoding s c b t in
-    record { written = r .written; sound = record { fields = r .kept; bounded = all-held c (subst (λ y. large-fault y ≡ None) (sym v) l) } }
+    record { written = r .written; sound = record { fields = r .kept; bounded = all-bounded c (subst (λ y. large-fault y ≡ None) (sym v) l) } }
 
 -- the record of a job that keeps every rule is accepted, and gives the job back
 record-is-accepted : (c : Content) → Sound c → verdict (encode c) ≡ Ok c

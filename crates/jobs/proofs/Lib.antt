@@ -4,5 +4,5 @@ pub mod Turns
 pub mod Values
 pub mod Holding
 pub mod Accepting
-pub mod Taming
+pub mod Bounding
 pub mod Telling

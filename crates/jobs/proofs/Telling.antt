@@ -16,22 +16,22 @@ use Rattle.records.specs.Rules.{Content, Keeps}
 use Rattle.records.specs.Verdicts.{content-in}
 use Rattle.records.proofs.Firsts.{broken-stage}
 use Rattle.records.proofs.Ranks.{later-place, later-stage}
-use Rattle.jobs.specs.Reading.{JobBroken, Leaves, held}
+use Rattle.jobs.specs.Reading.{JobBroken, Leaves, bounded-upto}
 use Rattle.jobs.specs.Reading.JobBroken.{in-fields, in-registers}
 use Rattle.jobs.specs.Registers.{expected, no-instruction, gives, registers}
 use Rattle.jobs.proofs.Fills.{fill-stops}
 use Rattle.jobs.proofs.Holding.{Results, gives-answer, reg-valid}
-use Rattle.jobs.proofs.Taming.{sided}
+use Rattle.jobs.proofs.Bounding.{sided}
 use Rattle.jobs.proofs.Wiring.{wired}
 
 -- a job whose fields keep their rules, and that has a register too many for the bound, leaves the bound there
-pub leaving : (c : Content) → Keeps c → held c < length (c .program) → Leaves c (held c)
+pub leaving : (c : Content) → Keeps c → bounded-upto c < length (c .program) → Leaves c (bounded-upto c)
 leaving c g h =
     let box = c .sides in
     let rows = registers plain-kind (c .program) box in
-    let i = getD (c .program) (held c) no-instruction in
+    let i = getD (c .program) (bounded-upto c) no-instruction in
     let w = wired (length box) (c .program) (g .programmed) in
-    let a = gives-answer plain-kind plain-lawful box (sided c g) i (held c) rows (w (held c) h) (λ k l. reg-valid plain-kind plain-lawful (c .program) box (sided c g) w k l) in
+    let a = gives-answer plain-kind plain-lawful box (sided c g) i (bounded-upto c) rows (w (bounded-upto c) h) (λ k l. reg-valid plain-kind plain-lawful (c .program) box (sided c g) w k l) in
     record {
       there = h;
       before = refl;
@@ -63,9 +63,9 @@ module _ (s : List ℕ) where
     pub told-large : (k : ℕ) → Leaves said k → Told {A = Content} (JobBroken s) (Err (at TooLarge k))
     told-large k l = (in-registers k l, one-large k l)
 
-    none-broken : length (said .program) ≤ held said → (e : Refusal) → JobBroken s e → ⊥
+    none-broken : length (said .program) ≤ bounded-upto said → (e : Refusal) → JobBroken s e → ⊥
     none-broken h e (in-fields e' b) = none e b
     none-broken h e (in-registers k l) = let p = l .before in let q = l .there in omega arith
 
-    pub told-none : (c : Content) → length (said .program) ≤ held said → Told {A = Content} (JobBroken s) (Ok c)
+    pub told-none : (c : Content) → length (said .program) ≤ bounded-upto said → Told {A = Content} (JobBroken s) (Ok c)
     told-none c h = none-broken h

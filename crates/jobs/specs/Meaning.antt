@@ -50,5 +50,5 @@ OneSolution = (n : ℕ) (program : List Instruction) → Wired n program → (kn
     Solves program knob (values program knob) × ((vs : List ℤ) → Solves program knob vs → vs ≡ values program knob)
 
 -- at every setting of the start box every register is within the bound
-abbrev pub Tame : Content → Type 0
-Tame c = (setting : List ℤ) → In (c .sides) setting → (k : ℕ) → k < length (c .program) → Bounded (point (register (c .program) setting k))
+abbrev pub RegistersBounded : Content → Type 0
+RegistersBounded c = (setting : List ℤ) → In (c .sides) setting → (k : ℕ) → k < length (c .program) → Bounded (point (register (c .program) setting k))

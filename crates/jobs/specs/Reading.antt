@@ -24,12 +24,12 @@ abbrev pub content-of : Job → Content
 content-of j = content (j .fields)
 
 -- how many registers, from the first, have a plain range over the start box within the bound
-abbrev pub held : Content → ℕ
-held c = length (registers plain-kind (c .program) (c .sides))
+abbrev pub bounded-upto : Content → ℕ
+bounded-upto c = length (registers plain-kind (c .program) (c .sides))
 
 -- the first register, if any, whose plain range over the start box leaves the bound; its place is its number
 abbrev pub large-fault : Content → Option Refusal
-large-fault c = when (ltb (held c) (length (c .program))) TooLarge (held c)
+large-fault c = when (ltb (bounded-upto c) (length (c .program))) TooLarge (bounded-upto c)
 
 -- why a record is refused: the first fault of its fields, or else a register that is too large
 abbrev pub job-fault : List ℕ → Option Refusal
@@ -42,7 +42,7 @@ verdict s = unless (job-fault s) (content-in s (counts-in s))
 -- register k leaves the bound: the registers before it have plain ranges over the start box, and its own plain answer is beyond the bound
 pub record Leaves (c : Content) (k : ℕ) : Type 0 where
   pub there : k < length (c .program)
-  pub before : held c ≡ k
+  pub before : bounded-upto c ≡ k
   pub leaves : Bounded (expected (c .sides) (getD (c .program) k no-instruction) (registers plain-kind (c .program) (c .sides))) → ⊥
 
 -- the rules that a byte string breaks as the record of a job: those of its fields, and that no register leaves the bound
@@ -53,7 +53,7 @@ pub data JobBroken (s : List ℕ) : Refusal → Type 0 where
 -- what a job says keeps every rule: those of its fields, and that no register is too large over the start box
 pub record Sound (c : Content) : Type 0 where
   pub fields : Keeps c
-  pub bounded : held c ≡ length (c .program)
+  pub bounded : bounded-upto c ≡ length (c .program)
 
 -- the byte string is the record of this job, which keeps every rule
 pub record RecordOf (c : Content) (s : List ℕ) : Type 0 where

@@ -3,7 +3,7 @@ ghost use Rattle.std.specs.Vec.{made};
 ghost use Rattle.records.specs.Broken.{Told};
 ghost use Rattle.records.specs.Encoding.{Exact};
 ghost use Rattle.records.specs.Faults.{mapped};
-ghost use Rattle.jobs.specs.Meaning.{Tame};
+ghost use Rattle.jobs.specs.Meaning.{RegistersBounded};
 ghost use Rattle.jobs.specs.Reading.{JobBroken, RecordOf, content-of, verdict};
 use crate::job::Job;
 use crate::registers::evaluate;
@@ -20,7 +20,7 @@ impl Job {
         ensures told { λ r. ⌜ mapped content-of r ≡ verdict (now (bytes .entry)) ⌝ }
         ensures exact { λ r. ⌜ Exact (λ c. RecordOf c (now (bytes .entry))) content-of r ⌝ }
         ensures first { λ r. ⌜ Told (JobBroken (now (bytes .entry))) r ⌝ }
-        ensures tame { λ r. ⌜ made r (λ j. Tame (content-of j)) ⌝ }
+        ensures bounded { λ r. ⌜ made r (λ j. RegistersBounded (content-of j)) ⌝ }
     {
         let fields = Fields::read(bytes)?;
         let mut rows = [Row {

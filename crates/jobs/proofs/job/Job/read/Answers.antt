@@ -10,10 +10,10 @@ use Rattle.records.specs.declared.reason.Refusal.{Refusal}
 use Rattle.records.specs.Broken.{Told, at}
 use Rattle.records.specs.Rules.{Content}
 use Rattle.records.specs.Verdicts.{content}
-use Rattle.jobs.specs.Reading.{JobBroken, Leaves, held, verdict}
+use Rattle.jobs.specs.Reading.{JobBroken, Leaves, bounded-upto, verdict}
 use Rattle.jobs.specs.Registers.{program-of}
 use Rattle.jobs.proofs.Accepting.{all-within, exact-job, fields-refused, is-content, too-large}
-use Rattle.jobs.proofs.Taming.{tame}
+use Rattle.jobs.proofs.Bounding.{registers-bounded}
 use Rattle.jobs.proofs.Telling.{leaving, told-fields, told-large, told-none}
 use Rattle.jobs.proofs.Wiring.{program-long}
 use Rattle.jobs.proofs.job.Job.read.Needs as need
@@ -27,7 +27,7 @@ returns-in-Break-fields c =
       told = e;
       exact = exact-job s (Err _) (λ i. omega (arith, c .typed .bytes i)) e;
       first = told-fields s _ (c .in-Break-fields .ensures tt .first);
-      tame = tt;
+      bounded = tt;
     })
 
 pub returns-then-filled-fields : need.returns-then-filled-fields
@@ -36,16 +36,16 @@ returns-then-filled-fields c =
     let s = c .args .bytes .now in
     let was = c .in-Continue-fields .ensures tt in
     let l = program-long f in
-    let n : c .evaluate-filled .result ≡ held (content f) = c .evaluate-filled .ensures .count in
-    let h : held (content f) < length (program-of f) = omega arith in
-    let r : c .new .result ≡ at TooLarge (held (content f)) = c .new .ensures ∙ ap (at TooLarge) n in
+    let n : c .evaluate-filled .result ≡ bounded-upto (content f) = c .evaluate-filled .ensures .count in
+    let h : bounded-upto (content f) < length (program-of f) = omega arith in
+    let r : c .new .result ≡ at TooLarge (bounded-upto (content f)) = c .new .ensures ∙ ap (at TooLarge) n in
     let e : Err (c .new .result) ≡ verdict s = ap Err r ∙ too-large s (content f) (was .told) h in
-    let g = subst (λ (x : Content). Leaves x (held (content f))) (is-content s (content f) (was .told)) (leaving (content f) (was .exact .0 .kept) h) in
+    let g = subst (λ (x : Content). Leaves x (bounded-upto (content f))) (is-content s (content f) (was .told)) (leaving (content f) (was .exact .0 .kept) h) in
     record {
       told = e;
       exact = exact-job s (Err _) (λ i. omega (arith, c .typed .bytes i)) e;
-      first = subst (λ (d : Refusal). Told {A = Content} (JobBroken s) (Err d)) (sym r) (told-large s (was .first) (held (content f)) g);
-      tame = tt;
+      first = subst (λ (d : Refusal). Told {A = Content} (JobBroken s) (Err d)) (sym r) (told-large s (was .first) (bounded-upto (content f)) g);
+      bounded = tt;
     }
 
 pub returns : need.returns
@@ -54,14 +54,14 @@ returns c =
     let s = c .args .bytes .now in
     let was = c .in-Continue-fields .ensures tt in
     let l = program-long f in
-    let n : c .evaluate-filled .result ≡ held (content f) = c .evaluate-filled .ensures .count in
-    let h : length (program-of f) ≤ held (content f) = omega arith in
+    let n : c .evaluate-filled .result ≡ bounded-upto (content f) = c .evaluate-filled .ensures .count in
+    let h : length (program-of f) ≤ bounded-upto (content f) = omega arith in
     let e = all-within s (content f) (was .told) h in
-    let b : held (content f) ≡ length (program-of f) = omega (arith, c .evaluate-filled .ensures .bound) in
-    let q : held (content f) ≡ f .registers = omega arith in
+    let b : bounded-upto (content f) ≡ length (program-of f) = omega (arith, c .evaluate-filled .ensures .bound) in
+    let q : bounded-upto (content f) ≡ f .registers = omega arith in
     record {
       told = e;
       exact = exact-job s (Ok (record { fields = f; bounded = q })) (λ i. omega (arith, c .typed .bytes i)) e;
-      first = told-none s (was .first) (content f) (subst (λ (x : Content). length (x .program) ≤ held x) (is-content s (content f) (was .told)) h);
-      tame = tame (content f) (record { fields = was .exact .0 .kept; bounded = b });
+      first = told-none s (was .first) (content f) (subst (λ (x : Content). length (x .program) ≤ bounded-upto x) (is-content s (content f) (was .told)) h);
+      bounded = registers-bounded (content f) (record { fields = was .exact .0 .kept; bounded = b });
     }

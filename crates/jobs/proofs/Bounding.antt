@@ -9,7 +9,7 @@ use Rattle.ranges.specs.Plains.{plain-kind}
 use Rattle.ranges.proofs.Lawfulness.{plain-lawful}
 use Rattle.records.specs.Rules.{Content, Keeps}
 use Rattle.records.proofs.Runs.{every-at}
-use Rattle.jobs.specs.Meaning.{Tame, register}
+use Rattle.jobs.specs.Meaning.{RegistersBounded, register}
 use Rattle.jobs.specs.Reading.{Sound}
 use Rattle.jobs.specs.Registers.{no-row, registers}
 use Rattle.jobs.proofs.Holding.{Sided, reg-holds, reg-valid}
@@ -21,8 +21,8 @@ sided c g n h =
     let k = good-in (getD (c .sides) n nought) (every-at (λ _ x. good-side x) 0 (c .sides) nought (g .sided) n h) in
     record { above = omega (arith, ints); order = k .order; below = omega (arith, ints) }
 
-pub tame : (c : Content) → Sound c → Tame c
-tame c g s inside k h =
+pub registers-bounded : (c : Content) → Sound c → RegistersBounded c
+registers-bounded c g s inside k h =
     let w = wired (length (c .sides)) (c .program) (g .fields .programmed) in
     let o = sided c (g .fields) in
     let r = getD (registers plain-kind (c .program) (c .sides)) k no-row in
