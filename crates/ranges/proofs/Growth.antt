@@ -1,19 +1,14 @@
 -- The answers of the plain kind grow with their operands.
-use native.Mathlib.Omega.{arith}
 use lib.IntN.{ℤ}
 use lib.Signed.{_≤ℤ_}
-use Rattle.std.proofs.shelf.Signed.{ints}
 use Rattle.boxes.specs.Boxes.{Ends}
-use Rattle.ranges.specs.Bounds.{Bounded, Inside}
+use Rattle.ranges.specs.Bounds.{Inside}
 use Rattle.ranges.specs.Kind.{ends}
 use Rattle.ranges.specs.Plains.{plain, row-of}
 use Rattle.ranges.specs.PlainLaws.{Grows, GrowsOne, GrowsTwo, GrowingAnswers}
 use Rattle.ranges.proofs.Fitting.{valid-in, plain-by, plain-yes}
 use Rattle.ranges.proofs.Hulls.{Hull1, Hull2, nested1, nested2, hull-add, hull-sub, hull-mul, hull-sqr, hull-min, hull-shr}
-use Rattle.ranges.proofs.Lawfulness.{ordered, unordered, one-order, two-order}
-
-pub bounded-in : (e p : Ends) → Inside e p → Bounded p → Bounded e
-bounded-in e p i b = record { above = omega (arith, ints); below = omega (arith, ints) }
+use Rattle.ranges.proofs.Lawfulness.{bounded-in, ordered, unordered, one-order, two-order}
 
 grows : (e p : Ends) → e .lo ≤ℤ e .hi → Inside e p → Grows (plain e) (plain p)
 grows e p o i = plain-by p (Grows (plain e))

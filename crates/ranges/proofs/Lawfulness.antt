@@ -14,7 +14,7 @@ use Rattle.whole.specs.Laws.{Amid}
 use Rattle.whole.proofs.Products.{is-le, le-in}
 use Rattle.boxes.specs.Boxes.{Ends, nought}
 use Rattle.ranges.specs.declared.row.Row.{Row}
-use Rattle.ranges.specs.Bounds.{Bounded, Ordered, point}
+use Rattle.ranges.specs.Bounds.{Bounded, Inside, Ordered, point}
 use Rattle.ranges.specs.Hulls.{ends-add, ends-sub, ends-mul, ends-sqr, ends-min, ends-shr, square, shifted}
 use Rattle.ranges.specs.Kind.{Valid, Holds, ends, Answer, Of-one, Of-two, One, Two, Spans, Constant, Tells, Lawful, Keeping, Kept}
 use Rattle.ranges.specs.Plains.{plain, plain-kind, plain-keeper, row-of}
@@ -26,6 +26,10 @@ unordered e o = record { above = o .above; below = o .below }
 
 pub ordered : (e : Ends) → e .lo ≤ℤ e .hi → Bounded e → Ordered e
 ordered e o b = record { above = b .above; order = o; below = b .below }
+
+-- ends within bounded ones are bounded
+pub bounded-in : (e p : Ends) → Inside e p → Bounded p → Bounded e
+bounded-in e p i b = record { above = omega (arith, ints); below = omega (arith, ints) }
 
 -- the plain answer, where the ends are in order and every result lies between them
 plain-answer : (e : Ends) (R : ℤ → Type 0) → e .lo ≤ℤ e .hi → ((z : ℤ) → R z → On e z) → Answer plain-kind e R (plain e)

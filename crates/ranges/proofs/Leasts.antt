@@ -6,25 +6,22 @@ use lib.Signed.{_≤ℤ_}
 use Rattle.std.proofs.shelf.Signed.{ints}
 use Rattle.boxes.specs.Boxes.{Ends}
 use Rattle.ranges.specs.declared.row.Row.{Row}
-use Rattle.ranges.specs.Bounds.{Bounded, Inside, point}
-use Rattle.ranges.specs.Kind.{Valid, Of-one, Of-two, ends}
+use Rattle.ranges.specs.Bounds.{Inside, point}
+use Rattle.ranges.specs.Kind.{Of-one, Of-two, ends}
 use Rattle.ranges.specs.Plains.{plain, plain-kind, row-of}
 use Rattle.ranges.specs.PlainLaws.{Covers, Least, LeastOne, LeastTwo, LeastAnswers}
 use Rattle.ranges.proofs.Fitting.{valid-in, row-valid, holds-in, holds-out, plain-by}
 use Rattle.ranges.proofs.Hulls.{On, Hull1, Hull2, hull-add, hull-sub, hull-mul, hull-sqr, hull-min, hull-shr}
-use Rattle.ranges.proofs.Lawfulness.{ordered, one-order, one-all, two-order, two-all}
+use Rattle.ranges.proofs.Lawfulness.{bounded-in, plain-lawful, ordered, one-order, one-all, two-order, two-all}
 
 -- ends that are results lie within every range that holds them
 around : (e : Ends) (P : ℤ → Type 0) → P (e .lo) → P (e .hi) → (d : Row) → Covers P d → Inside e (ends d)
 around e P l h d c = record { low = holds-in d (e .lo) (c .all (e .lo) l) .low; high = holds-in d (e .hi) (c .all (e .hi) h) .high }
 
-bounded-by : (e : Ends) (d : Row) → Valid plain-kind d → Inside e (ends d) → Bounded e
-bounded-by e d v i = let o = valid-in d v in record { above = omega (arith, ints); below = omega (arith, ints) }
-
 least : (e : Ends) (P : ℤ → Type 0) → e .lo ≤ℤ e .hi → ((z : ℤ) → P z → On e z) → P (e .lo) → P (e .hi) → Least P (plain e)
 least e P order all l h = plain-by e (Least P)
     (λ o. (record { valid = row-valid e o; all = λ z p. holds-out (row-of e) z (all z p) }, around e P l h))
-    (λ n d c. n (ordered e order (bounded-by e d (c .valid) (around e P l h d c))))
+    (λ n d c. n (ordered e order (bounded-in e (ends d) (around e P l h d c) (plain-lawful .bounded d (c .valid)))))
 
 least-one : (f : ℤ → ℤ) (e : Ends → Ends) → Hull1 f e → LeastOne f (λ a. plain (e (ends a)))
 least-one f e t a va =
