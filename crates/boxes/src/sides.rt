@@ -4,12 +4,17 @@ ghost use Rattle.boxes.specs.Boxes.{width};
 ghost use Rattle.boxes.specs.Views.{ends-of, shown, side};
 use crate::side::Side;
 
+/// The lowest and the highest number of a knob.
+const LOWEST: i32 = -16_384;
+
+const HIGHEST: i32 = 16_383;
+
 impl Side {
     /// The side from low to high, if they are a knob's numbers and in order.
     pub fn new(low: i32, high: i32) -> Option<Side>
         ensures { λ r. ⌜ shown r ≡ side (record { lo = low; hi = high }) ⌝ }
     {
-        if low < -16_384 || high < low || high > 16_383 {
+        if low < LOWEST || high < low || high > HIGHEST {
             return None;
         }
         Some(Side { low, high })
