@@ -4,10 +4,11 @@ ghost use Rattle.boxes.specs.Boxes.{width};
 ghost use Rattle.boxes.specs.Views.{ends-of, shown, side};
 use crate::side::Side;
 
-/// The lowest and the highest number of a knob.
-const LOWEST: i32 = -16_384;
+/// The lowest number of a knob.
+pub const LOWEST: i32 = -16_384;
 
-const HIGHEST: i32 = 16_383;
+/// The highest number of a knob.
+pub const HIGHEST: i32 = 16_383;
 
 impl Side {
     /// The side from low to high, if they are a knob's numbers and in order.

@@ -12,7 +12,7 @@ use Rattle.std.specs.declared.result.Result.the-variants.{Ok, Err}
 use Rattle.ranges.specs.Plains.{plain-kind}
 use Rattle.records.specs.declared.reason.Reason.the-variants.{TooLarge}
 use Rattle.records.specs.declared.reason.Refusal.{Refusal}
-use Rattle.records.specs.Encoding.{Exact, encode}
+use Rattle.records.specs.Encoding.{Exact, RecordOf, encode}
 use Rattle.records.specs.Faults.{mapped, unless}
 use Rattle.records.specs.Layouts.{counts-in}
 use Rattle.records.specs.Numbers.{Bytes}
@@ -24,7 +24,7 @@ use Rattle.records.proofs.Complete.{encoding-is-accepted}
 use Rattle.records.proofs.Encoded.{accepted-is-encoding}
 use Rattle.records.proofs.Exactly.{exact-by}
 use Rattle.jobs.specs.declared.job.Job.{Job}
-use Rattle.jobs.specs.Reading.{RecordOf, Sound, content-of, bounded-upto, job-fault, large-fault, verdict}
+use Rattle.jobs.specs.Reading.{Sound, content-of, bounded-upto, job-fault, large-fault, verdict}
 use Rattle.jobs.specs.Registers.{gives}
 use Rattle.jobs.proofs.Fills.{fill-upto}
 
@@ -62,7 +62,7 @@ module _ (s : List ℕ) (c : Content) (e : Ok c ≡ fields-verdict s) where
   all-within h = sym (judged ∙ ap (λ o. unless o c) (large-none c h))
 
 -- a byte string that is accepted is the record of what was read, which keeps every rule
-accepted-is-record : (s : List ℕ) (c : Content) → Bytes s → verdict s ≡ Ok c → RecordOf c s
+accepted-is-record : (s : List ℕ) (c : Content) → Bytes s → verdict s ≡ Ok c → RecordOf Sound c s
 accepted-is-record s c b e =
     let x = content-in s (counts-in s) in
     let n = none-of (job-fault s) x c (sym e) in
@@ -71,7 +71,7 @@ accepted-is-record s c b e =
     let l = none-right (fault s) (large-fault x) n in
     let t : fields-verdict s ≡ Ok c = ap (λ o. unless o x) f ∙ ap Ok (sym v) in
     let r = accepted-is-encoding s c b t in
-    record { written = r .written; sound = record { fields = r .kept; bounded = all-bounded c (subst (λ y. large-fault y ≡ None) (sym v) l) } }
+    record { written = r .written; kept = record { fields = r .kept; bounded = all-bounded c (subst (λ y. large-fault y ≡ None) (sym v) l) } }
 
 -- the record of a job that keeps every rule is accepted, and gives the job back
 record-is-accepted : (c : Content) → Sound c → verdict (encode c) ≡ Ok c
@@ -80,9 +80,9 @@ record-is-accepted c g =
     let b = g .bounded in
     sym (all-within (encode c) c e (omega arith))
 
-pub exact-job : (s : List ℕ) (r : Result Job Refusal) → Bytes s → mapped content-of r ≡ verdict s → Exact (λ c. RecordOf c s) content-of r
+pub exact-job : (s : List ℕ) (r : Result Job Refusal) → Bytes s → mapped content-of r ≡ verdict s → Exact Sound s content-of r
 exact-job s r b e =
-    exact-by (λ c. RecordOf c s) (verdict s)
+    exact-by Sound s (verdict s)
     (λ c q. accepted-is-record s c b q)
-    (λ c i. ap verdict (sym (i .written)) ∙ record-is-accepted c (i .sound))
+    (λ c i. ap verdict (sym (i .written)) ∙ record-is-accepted c (i .kept))
     content-of r e

@@ -11,7 +11,7 @@ use Rattle.ranges.specs.Bounds.{Bounded, point}
 use Rattle.ranges.specs.Kind.{Holds, Kind}
 use Rattle.records.specs.declared.instruction.Instruction.{Instruction}
 use Rattle.records.specs.declared.target.Target.{Target}
-use Rattle.records.specs.Rules.{Content}
+use Rattle.records.specs.Rules.{Content, no-target}
 use Rattle.jobs.specs.Registers.{Wired, no-instruction, no-row, value, values}
 
 -- what each knob reads at a setting
@@ -30,10 +30,6 @@ RowsHold k program box n rows = (setting : List ℤ) → In box setting → (j :
 pub record Hits (program : List Instruction) (setting : List ℤ) (t : Target) : Type 0 where
   pub from : t .low ≤ℤ register program setting (t .register)
   pub to : register program setting (t .register) ≤ℤ t .high
-
--- the target in the place of none
-abbrev pub no-target : Target
-no-target = record { register = 0; low = pos 0; high = pos 0 }
 
 -- the setting meets the job: it hits every target
 abbrev pub Meets : Content → List ℤ → Type 0

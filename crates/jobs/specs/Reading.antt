@@ -11,7 +11,6 @@ use Rattle.ranges.specs.Plains.{plain-kind}
 use Rattle.records.specs.declared.reason.Reason.the-variants.{TooLarge}
 use Rattle.records.specs.declared.reason.Refusal.{Refusal}
 use Rattle.records.specs.Broken.{Broken, at}
-use Rattle.records.specs.Encoding.{encode}
 use Rattle.records.specs.Faults.{orElse, unless, when}
 use Rattle.records.specs.Rules.{Content, Keeps}
 use Rattle.records.specs.Layouts.{counts-in}
@@ -54,8 +53,3 @@ pub data JobBroken (s : List ℕ) : Refusal → Type 0 where
 pub record Sound (c : Content) : Type 0 where
   pub fields : Keeps c
   pub bounded : bounded-upto c ≡ length (c .program)
-
--- the byte string is the record of this job, which keeps every rule
-pub record RecordOf (c : Content) (s : List ℕ) : Type 0 where
-  pub written : encode c ≡ s
-  pub sound : Sound c

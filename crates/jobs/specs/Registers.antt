@@ -11,6 +11,7 @@ use Rattle.ranges.specs.declared.row.Row.{Row}
 use Rattle.ranges.specs.Bounds.{point}
 use Rattle.ranges.specs.Hulls.{ends-add, ends-sub, ends-mul, ends-sqr, ends-min, ends-shr, shifted, square}
 use Rattle.ranges.specs.Kind.{Kind, Valid, ends}
+use Rattle.ranges.specs.Plains.{row-of}
 use Rattle.records.specs.declared.fields.Fields.{Fields}
 use Rattle.records.specs.declared.instruction.Instruction.{Instruction}
 use Rattle.records.specs.declared.instruction.Instruction.the-variants.{Const, Knob, Add, Sub, Mul, Sqr, Min, Shr}
@@ -46,7 +47,7 @@ values program knob = fill (λ i vs. Some (value knob i vs)) program []
 
 -- the row in the place of no register
 abbrev pub no-row : Row
-no-row = record { low = pos 0; high = pos 0; step = 0 }
+no-row = row-of nought
 
 -- the row of one instruction over a box, from the rows before it
 abbrev pub gives : Kind → List Ends → Instruction → List Row → Option Row

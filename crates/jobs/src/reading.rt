@@ -4,7 +4,7 @@ ghost use Rattle.records.specs.Broken.{Told};
 ghost use Rattle.records.specs.Encoding.{Exact};
 ghost use Rattle.records.specs.Faults.{mapped};
 ghost use Rattle.jobs.specs.Meaning.{RegistersBounded};
-ghost use Rattle.jobs.specs.Reading.{JobBroken, RecordOf, content-of, verdict};
+ghost use Rattle.jobs.specs.Reading.{JobBroken, Sound, content-of, verdict};
 use crate::job::Job;
 use crate::registers::evaluate;
 use ranges::plain::Plain;
@@ -18,7 +18,7 @@ impl Job {
     /// The job of a record, or why the record is refused, and where.
     pub fn read(bytes: &[u8]) -> Result<Job, Refusal>
         ensures told { λ r. ⌜ mapped content-of r ≡ verdict (now (bytes .entry)) ⌝ }
-        ensures exact { λ r. ⌜ Exact (λ c. RecordOf c (now (bytes .entry))) content-of r ⌝ }
+        ensures exact { λ r. ⌜ Exact Sound (now (bytes .entry)) content-of r ⌝ }
         ensures first { λ r. ⌜ Told (JobBroken (now (bytes .entry))) r ⌝ }
         ensures bounded { λ r. ⌜ made r (λ j. RegistersBounded (content-of j)) ⌝ }
     {

@@ -22,7 +22,7 @@ use Rattle.records.specs.declared.instruction.Instruction.the-variants.{Const}
 use Rattle.records.specs.Numbers.{byte, nat16, nat32}
 use Rattle.records.specs.Places.{version-place, knobs-place, limit-place, sides-start, side-size, program-place, program-start, instruction-size, targets-place, targets-start, target-size}
 use Rattle.records.specs.Faults.{unless}
-use Rattle.records.specs.Rules.{Content, Keeps, good-instruction, good-target}
+use Rattle.records.specs.Rules.{Content, Keeps, good-instruction, good-target, no-target}
 use Rattle.records.specs.Entries.{side-faults, sides-from, instruction-faults, instructions-from, target-faults, targets-from}
 use Rattle.records.specs.Layouts.{instructions-in, targets-in, counts-in, ends-at, head-fault, count-fault, size-fault, layout-fault}
 use Rattle.records.specs.Verdicts.{limit-fault, sides-fault, program-fault, targets-fault, field-fault, fault, sides-read, program-read, targets-read, content-in, verdict}
@@ -43,9 +43,6 @@ size-clean : (s : List ℕ) (end : ℕ) → length s ≡ end → size-fault s en
 size-clean s end e =
     one-clean (ltb (length s) end) BadShape (length s) _ (le-ltb _ _ (omega arith))
     (one-clean (ltb end (length s)) BadShape end None (le-ltb _ _ (omega arith)) refl)
-
-no-target : Target
-no-target = record { register = 0; low = pos 0; high = pos 0 }
 
 -- how many entries each table of the content has
 abbrev counts-of : Content → Counts

@@ -133,14 +133,14 @@ module _ (s : List ℕ) (b : Bytes s) (le : layout-fault s ≡ None) (fe : field
         aimed = rw np (targets-good s (instructions-in s) ts (targets-in s) targets-none);
       }
 
-  pub record-of : RecordOf (content-in s (counts-in s)) s
+  pub record-of : RecordOf Keeps (content-in s (counts-in s)) s
   record-of = record { written = encode-is; kept = keeps }
 
 -- a byte string that is accepted is the record of what was read, which keeps every rule
-pub accepted-is-encoding : (s : List ℕ) (c : Content) → Bytes s → verdict s ≡ Ok c → RecordOf c s
+pub accepted-is-encoding : (s : List ℕ) (c : Content) → Bytes s → verdict s ≡ Ok c → RecordOf Keeps c s
 accepted-is-encoding s c b e =
     let n = none-of (fault s) (content-in s (counts-in s)) c (sym e) in
     let v = value-of (fault s) (content-in s (counts-in s)) c (sym e) in
     let l = none-left (layout-fault s) (field-fault s (counts-in s)) n in
     let f = none-right (layout-fault s) (field-fault s (counts-in s)) n in
-    subst (λ (x : Content). RecordOf x s) (sym v) (record-of s b l f)
+    subst (λ (x : Content). RecordOf Keeps x s) (sym v) (record-of s b l f)

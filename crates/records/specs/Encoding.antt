@@ -14,7 +14,7 @@ use Rattle.records.specs.declared.target.Target.{Target}
 use Rattle.records.specs.declared.instruction.Instruction.{Instruction}
 use Rattle.records.specs.declared.instruction.Instruction.the-variants.{Const, Knob, Add, Sub, Mul, Sqr, Min, Shr}
 use Rattle.records.specs.Numbers.{bytes16, bytes32, signed16, signed32}
-use Rattle.records.specs.Rules.{Content, Keeps}
+use Rattle.records.specs.Rules.{Content}
 
 -- the bytes of a side: its low end, its high end
 abbrev pub encode-side : Ends → List ℕ
@@ -55,13 +55,12 @@ body c = 1 ∷ length (c .sides) ∷ (bytes16 (c .limit) ++ (joined encode-side 
 abbrev pub encode : Content → List ℕ
 encode c = bytes32 (length (body c)) ++ body c
 
--- the byte string is the record of this content, which keeps every rule
-pub record RecordOf (c : Content) (s : List ℕ) : Type 0 where
+-- the byte string is the record of this content, which keeps the rules
+pub record RecordOf (Rules : Content → Type 0) (c : Content) (s : List ℕ) : Type 0 where
   pub written : encode c ≡ s
-  pub kept : Keeps c
+  pub kept : Rules c
 
--- an answer is exact about what a byte string is the record of: where something was read, it is the record of that and of nothing else;
--- what is refused is the record of nothing
-abbrev pub Exact : {A : Type 0} → (Content → Type 0) → (A → Content) → Result A Refusal → Type 0
-Exact Is view (Ok x) = Is (view x) × ((c : Content) → Is c → c ≡ view x)
-Exact Is view (Err d) = (c : Content) → Is c → ⊥
+-- an answer is exact about a byte string: where something was read, it is the record of that and of nothing else; what is refused is the record of nothing
+abbrev pub Exact : {A : Type 0} → (Content → Type 0) → List ℕ → (A → Content) → Result A Refusal → Type 0
+Exact Rules s view (Ok x) = RecordOf Rules (view x) s × ((c : Content) → RecordOf Rules c s → c ≡ view x)
+Exact Rules s view (Err d) = (c : Content) → RecordOf Rules c s → ⊥

@@ -34,6 +34,10 @@ good-instruction knobs k (Shr a b) = ltb a k && ltb b 31
 abbrev pub good-target : ℕ → Target → Bool
 good-target registers t = ltb (t .register) registers && (bounded (t .low) && between (t .low) (t .high) (pos bound))
 
+-- the target in the place of none
+abbrev pub no-target : Target
+no-target = record { register = 0; low = pos 0; high = pos 0 }
+
 -- a test holds of each item with its number, counted on from k
 abbrev pub every : {A : Type 0} → (ℕ → A → Bool) → ℕ → List A → Bool
 every p k [] = true

@@ -18,6 +18,8 @@ use crate::reason::Reason;
 use crate::reason::Refusal;
 use crate::target::Target;
 use boxes::side::Side;
+use boxes::sides::HIGHEST;
+use boxes::sides::LOWEST;
 
 /// How far a constant or a target's end may lie from 0: 2^30.
 const BOUND: i32 = 1_073_741_824;
@@ -98,10 +100,10 @@ pub(crate) fn read_side(bytes: &[u8], at: usize) -> Result<Side, Refusal>
 {
     let low = read_i16(bytes, at);
     let high = read_i16(bytes, at + 2);
-    if !lies(-16_384, low, 16_383) {
+    if !lies(LOWEST, low, HIGHEST) {
         return Err(Refusal::new(Reason::BadField, at));
     }
-    if !lies(low, high, 16_383) {
+    if !lies(low, high, HIGHEST) {
         return Err(Refusal::new(Reason::BadField, at + 2));
     }
     Ok(Side { low, high })

@@ -6,7 +6,8 @@ ghost use Rattle.records.specs.Places.{limit-place};
 ghost use Rattle.records.specs.Faults.{unless, mapped};
 ghost use Rattle.records.specs.Layouts.{Shaped};
 ghost use Rattle.records.specs.Verdicts.{limit-fault, field-fault, content-in, content, verdict};
-ghost use Rattle.records.specs.Encoding.{Exact, RecordOf};
+ghost use Rattle.records.specs.Rules.{Keeps};
+ghost use Rattle.records.specs.Encoding.{Exact};
 ghost use Rattle.records.specs.Broken.{Broken, Told};
 use crate::bytes::read_u16;
 use crate::fields::Fields;
@@ -62,7 +63,7 @@ impl Fields {
     /// What a job record says, or why the record is refused and where.
     pub fn read(bytes: &[u8]) -> Result<Fields, Refusal>
         ensures told { λ r. ⌜ mapped content r ≡ verdict (now (bytes .entry)) ⌝ }
-        ensures exact { λ r. ⌜ Exact (λ c. RecordOf c (now (bytes .entry))) content r ⌝ }
+        ensures exact { λ r. ⌜ Exact Keeps (now (bytes .entry)) content r ⌝ }
         ensures first { λ r. ⌜ Told (Broken (now (bytes .entry))) r ⌝ }
     {
         let counts = layout(bytes)?;
