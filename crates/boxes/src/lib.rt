@@ -8,6 +8,9 @@
 //! The contracts say which sides can be made, that a region's count is the number of its settings,
 //! and when a region lies inside another: when every setting of it is one of the other's. What a job
 //! asks of a setting is left to the crates above.
+#![tactic(auto)]
+
+pub mod counts;
 pub mod region;
 pub mod regions;
 pub mod side;

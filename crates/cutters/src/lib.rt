@@ -12,6 +12,7 @@
 //! `Idle` leaves every box as it is. `Seq` is one cutter and then another on what the first left,
 //! `Repeat` one cutter up to 16 times. They hold cutters by value, and lose no setting because those
 //! below lose none. What the scratch rows hold after a cut is left free.
+#![tactic(auto)]
 pub mod cutter;
 pub mod idle;
 pub mod repeat;

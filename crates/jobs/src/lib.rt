@@ -11,6 +11,7 @@
 //! `registers::evaluate` works out the rows of all registers over a box, by any kind of range; each
 //! row holds its register's value at every setting of the box.
 //! What the targets say of a box, and everything that sorts boxes, is left to the crates above.
+#![tactic(auto)]
 mod facts;
 pub mod job;
 pub mod laws;

@@ -11,6 +11,7 @@
 //! `spans` works out the plain answer of each operation from the operands' ends, for every kind. The
 //! plain range holds all numbers from low to high. Its answers are the least plain ranges that
 //! hold every result, and they grow with their operands (specs/PlainLaws).
+#![tactic(auto)]
 pub mod laws;
 pub mod narrowing;
 pub mod plain;

@@ -13,6 +13,7 @@
 //! a minimum's rest on, is the greatest power up to a limit (`GreatestPower` of `whole`).
 //!
 //! The plain ends themselves are worked out in `ranges::spans`.
+#![tactic(auto)]
 pub mod laws;
 mod making;
 mod powers;

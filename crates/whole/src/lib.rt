@@ -6,6 +6,8 @@
 //! and in words that do not say how to find it (the greatest whole number that is at most n / d,
 //! and so on). The proofs hold the shelf of lemmas on whole numbers that the other crates cite:
 //! orders of products and squares, multiples, floors and ceilings, roots.
+#![tactic(auto)]
+
 ghost use Rattle.std.specs.Prelude.{◌≡◌, ◌^◌, min, ℤ, pos, negsuc, ◌*ℤ◌, ◌≤ℤ◌, ◌≢◌};
 ghost use Rattle.std.specs.Int.Signed.{shr_z};
 ghost use Rattle.whole.specs.Corners.{least4, greatest4};

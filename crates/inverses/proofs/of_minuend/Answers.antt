@@ -10,5 +10,5 @@ pub returns : goal.returns
 returns c =
     let z = ends c.args.z in
     let y = ends c.args.y in
-    let e : span_ends c.add-ends.result ≡ back_minuend z y = search rules in
+    let e : span_ends c.add_ends.result ≡ back_minuend z y = search rules in
     record { value = e; sound = subst (InverseTwo ◌-ℤ◌ z y) (sym e) (minuend_inverse z y) }

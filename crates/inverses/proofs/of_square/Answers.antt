@@ -11,8 +11,8 @@ pub returns-then-x-s : goal.returns-then-x-s
 returns-then-x-s c =
     let z = ends c.args.z in
     let x = ends c.args.x in
-    let s : c.root-up-s.result ≡ root_up z.lo = grind (arith, to_z-of_z) in
-    let m : c.root-down-m.result ≡ root_down z.hi = grind (arith, to_z-of_z) in
+    let s : c.root_up-s.result ≡ root_up z.lo = grind (arith, to_z-of_z) in
+    let m : c.root_down-m.result ≡ root_down z.hi = grind (arith, to_z-of_z) in
     let e = above_is z x _ _ (omega (arith, ints)) (omega (arith, ints)) (omega (arith, ints)) in
     record { value = e; sound = subst (InverseOneOf square z x) (sym e) (square_inverse z x) }
 
@@ -20,8 +20,8 @@ pub returns-then-x-s-2 : goal.returns-then-x-s-2
 returns-then-x-s-2 c =
     let z = ends c.args.z in
     let x = ends c.args.x in
-    let s : c.root-up-s.result ≡ root_up z.lo = grind (arith, to_z-of_z) in
-    let m : c.root-down-m.result ≡ root_down z.hi = grind (arith, to_z-of_z) in
+    let s : c.root_up-s.result ≡ root_up z.lo = grind (arith, to_z-of_z) in
+    let m : c.root_down-m.result ≡ root_down z.hi = grind (arith, to_z-of_z) in
     let e = below_is z x _ _ (omega (arith, ints)) (omega (arith, ints)) (omega (arith, ints)) (omega (arith, ints)) in
     record { value = e; sound = subst (InverseOneOf square z x) (sym e) (square_inverse z x) }
 
@@ -29,7 +29,7 @@ pub returns-else-x-s-2 : goal.returns-else-x-s-2
 returns-else-x-s-2 c =
     let z = ends c.args.z in
     let x = ends c.args.x in
-    let s : c.root-up-s.result ≡ root_up z.lo = grind (arith, to_z-of_z) in
-    let m : c.root-down-m.result ≡ root_down z.hi = grind (arith, to_z-of_z) in
+    let s : c.root_up-s.result ≡ root_up z.lo = grind (arith, to_z-of_z) in
+    let m : c.root_down-m.result ≡ root_down z.hi = grind (arith, to_z-of_z) in
     let e = around_is z x _ _ (omega (arith, ints)) (omega (arith, ints)) (omega (arith, ints)) (omega (arith, ints)) in
     record { value = e; sound = subst (InverseOneOf square z x) (sym e) (square_inverse z x) }

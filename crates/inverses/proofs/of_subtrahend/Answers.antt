@@ -10,5 +10,5 @@ pub returns : goal.returns
 returns c =
     let z = ends c.args.z in
     let x = ends c.args.x in
-    let e : span_ends c.sub-ends.result ≡ back_subtrahend z x = search rules in
+    let e : span_ends c.sub_ends.result ≡ back_subtrahend z x = search rules in
     record { value = e; sound = subst (InverseTwo (turned ◌-ℤ◌) z x) (sym e) (subtrahend_inverse z x) }

@@ -10,5 +10,5 @@ pub returns : goal.returns
 returns c =
     let z = ends c.args.z in
     let y = ends c.args.y in
-    let e : span_ends c.sub-ends.result ≡ back_sum z y = search rules in
+    let e : span_ends c.sub_ends.result ≡ back_sum z y = search rules in
     record { value = e; sound = subst (InverseBoth ◌+ℤ◌ z y) (sym e) (sum_inverse z y) }

@@ -22,8 +22,8 @@ loop-n-preserved g c =
     let a = aimed f n c.loop-n-test.true in
     let al = a.low in
     let ah = a.high in
-    let w : c.within.result ≡ target_within k row t = (simp to_z-of_z at c.within.ensures) ∙ ap (λ r. k.within r t.low t.high) c.from-row-range.ensures in
-    let p : c.apart.result ≡ target_apart k row t = (simp to_z-of_z at c.apart.ensures) ∙ ap (λ r. k.apart r t.low t.high) c.from-row-range.ensures in
+    let w : c.within.result ≡ target_within k row t = (simp to_z-of_z at c.within.ensures) ∙ ap (λ r. k.within r t.low t.high) c.from_row-range.ensures in
+    let p : c.apart.result ≡ target_apart k row t = (simp to_z-of_z at c.apart.ensures) ∙ ap (λ r. k.apart r t.low t.high) c.from_row-range.ensures in
     let u = counted_more (target_within k row) f.targets f.goals n _ _ _ c.loop-n-test.true f.space c.loop-n.invariant.0 c.loop-n.invariant.2 c.from-within.ensures w in
     let v = counted_more (target_apart k row) f.targets f.goals n _ _ _ c.loop-n-test.true f.space c.loop-n.invariant.1 c.loop-n.invariant.3 c.from-apart.ensures p in
     (u.is, v.is, u.few, v.few)

@@ -8,8 +8,8 @@ use Rattle.jobs.proofs.Turns.{turn_some, turn_none, turns_over, valid_more, rest
 use Rattle.jobs.proofs.Wiring.{program_long, program_wired, region_wired}
 use Rattle.jobs.proofs.registers.evaluate.Goals as goal
 
-pub evaluate-one-requires : goal.evaluate-one-requires
-evaluate-one-requires g c = record {
+pub evaluate_one-requires : goal.evaluate_one-requires
+evaluate_one-requires g c = record {
   room = omega arith;
   wired = program_wired c.args.fields.now c.args.region.now.knobs c.loop-k.k c.requires.knobs c.loop-k-test.true;
   valid = c.loop-k.invariant.0;
@@ -43,11 +43,11 @@ loop-k-preserved g c =
     let box = sides_of c.args.region.now in
     let rows = c.loop-k.rows in
     let k = c.loop-k.k in
-    let r = c.to-row.result in
+    let r = c.to_row.result in
     let l = program_long f in
     let n : k < length rows = omega arith in
-    let v : Valid m r = ap m.valid c.to-row.ensures ∙ g.met.R.Range.valid c.in-Some.r in
-    let t = ap Some c.to-row.ensures ∙ c.in-Some.ensures ∙ ap (λ i. gives m box i (take k rows)) (sym (get_or-take f.registers f.program k no_instruction c.loop-k-test.true)) in (
+    let v : Valid m r = ap m.valid c.to_row.ensures ∙ g.met.R.Range.valid c.in-Some.r in
+    let t = ap Some c.to_row.ensures ∙ c.in-Some.ensures ∙ ap (λ i. gives m box i (take k rows)) (sym (get_or-take f.registers f.program k no_instruction c.loop-k-test.true)) in (
       valid_more (Valid m) rows k r n c.loop-k.invariant.0 v,
       sym (turn_some m box code rows k r (omega arith) n t) ∙ c.loop-k.invariant.1,
       rest_more rows c.args.rows.now k r c.loop-k.invariant.2,

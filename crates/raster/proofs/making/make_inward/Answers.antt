@@ -16,8 +16,8 @@ floor-requires c =
     let o = fit_in (span_ends c.args.span) (sym c.if-not-fits.ensures) in
     (omega arith, (omega (arith, ints), omega (arith, ints)))
 
-pub overflow-sub-span : goal.overflow-sub-span
-overflow-sub-span c =
+pub overflow_sub-span : goal.overflow_sub-span
+overflow_sub-span c =
     let o = fit_in (span_ends c.args.span) (sym c.if-not-fits.ensures) in
     omega (arith, ints)
 

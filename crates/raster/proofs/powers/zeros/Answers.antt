@@ -11,5 +11,5 @@ returns c =
     let t = c.args.most in
     let n = c.args.n in
     let f = c.ranges.n in
-    let e : c.min.result ≡ zeros t n = c.min.ensures ∙ ap (λ m. min t (count_trailing_zeros 64 m)) (simp to_z-of_z at c.unsigned-abs.ensures.value) in
+    let e : c.min.result ≡ zeros t n = c.min.ensures ∙ ap (λ m. min t (count_trailing_zeros 64 m)) (simp to_z-of_z at c.unsigned_abs.ensures.value) in
     record { value = e; greatest = subst (GreatestPower t n) (sym e) (greatest_power t 64 n (omega arith)) }

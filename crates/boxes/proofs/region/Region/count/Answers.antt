@@ -7,8 +7,8 @@ use Rattle.boxes.proofs.region.Region.count.Goals as goal
 small : (c : goal.After-count) → c.loop-k.count * c.count.result ≤ 2 ^ (15 * (c.loop-k.k + 1))
 small c = product_below c.loop-k.count c.count.result c.loop-k.k c.loop-k.invariant.1 c.count.ensures.bound
 
-pub overflow-mul-count : goal.overflow-mul-count
-overflow-mul-count c =
+pub overflow_mul-count : goal.overflow_mul-count
+overflow_mul-count c =
     let s = small c in
     let f = c.args.self.now.few in
     let p = power_below (c.loop-k.k + 1) (omega arith) in

@@ -11,8 +11,8 @@ use Rattle.forward_backward.proofs.Fitting.{cut_is, front}
 use Rattle.forward_backward.specs.Lawfulness.{forward_backward_lawful}
 use Rattle.forward_backward.proofs.forward_backward.ForwardBackwardCutter.cut.Goals as goal
 
-pub narrow-box-requires : goal.narrow-box-requires
-narrow-box-requires g c =
+pub narrow_box-requires : goal.narrow_box-requires
+narrow_box-requires g c =
     let k = g.R.Range.kind in
     let L = g.met.R.Range.lawful in
     let j = c.args.job.now in

@@ -3,8 +3,8 @@ use Rattle.std.proofs.lemmas.Int.{ints, to_z-of_z}
 use Rattle.whole.proofs.Products.{square_bound, square_pos}
 use Rattle.raster.proofs.raster_range.RasterRange.sqr.Goals as goal
 
-pub make-inward-requires : goal.make-inward-requires
-make-inward-requires c =
+pub make_inward-requires : goal.make_inward-requires
+make_inward-requires c =
     let p = c.args.self.now in
     let f : SFits w32 p.low = omega (arith, ints) in
     let e : c.product.result ≡ p.low *ℤ p.low = simp to_z-of_z at c.product.ensures in

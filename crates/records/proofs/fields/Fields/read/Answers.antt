@@ -16,14 +16,14 @@ returns-in-err-counts c =
       first = told_first c.args.bytes.now (Err _) t;
     })
 
-pub read-fields-requires : goal.read-fields-requires
-read-fields-requires c = shaped_counts c.args.bytes.now _ c.in-ok-counts.ensures
+pub read_fields-requires : goal.read_fields-requires
+read_fields-requires c = shaped_counts c.args.bytes.now _ c.in-ok-counts.ensures
 
 pub returns : goal.returns
 returns c =
-    let t = whole c.args.bytes.now _ c.in-ok-counts.ensures _ c.read-fields.ensures in
+    let t = whole c.args.bytes.now _ c.in-ok-counts.ensures _ c.read_fields.ensures in
     record {
       told = t;
-      exact = exact_fields c.args.bytes.now c.read-fields.result (λ i. omega (arith, c.type-inv.bytes i)) t;
-      first = told_first c.args.bytes.now c.read-fields.result t;
+      exact = exact_fields c.args.bytes.now c.read_fields.result (λ i. omega (arith, c.type-inv.bytes i)) t;
+      first = told_first c.args.bytes.now c.read_fields.result t;
     }
