@@ -12,6 +12,7 @@
 //! plain range holds all numbers from low to high. Its answers are the least plain ranges that
 //! hold every result, and they grow with their operands (specs/PlainLaws).
 #![tactic(auto)]
+
 pub mod laws;
 pub mod narrowing;
 pub mod plain;

@@ -9,6 +9,7 @@
 //! What a job means, its registers and the settings that meet it, is left to the crates above, and
 //! so is the refusal of a job with a register that is too large.
 #![tactic(auto)]
+
 mod bytes;
 pub mod fields;
 pub mod instruction;

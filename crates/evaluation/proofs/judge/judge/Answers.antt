@@ -9,10 +9,10 @@ use Rattle.evaluation.proofs.Concluding.{said_here, true_here}
 use Rattle.evaluation.proofs.Working.{answered_none, fit_in, refused_alike}
 use Rattle.evaluation.proofs.judge.judge.Goals as goal
 
-pub returns-in-err-evaluate : goal.returns-in-err-evaluate
-returns-in-err-evaluate g c =
-    let p = err_from_is_err_and c.from-residual.result c.from-residual.ensures.1 in
-    let was = c.in-err-evaluate.ensures in
+pub returns-in_err-evaluate : goal.returns-in_err-evaluate
+returns-in_err-evaluate g c =
+    let p = err_from_is_err_and c.from_residual.result c.from_residual.ensures.1 in
+    let was = c.in_err-evaluate.ensures in
     rw (p.1, p.2) (record { told = refused_alike _ _ _ _ was.told; filled = c.evaluate.ensures.filled; truth = was.laws })
 
 pub returns : goal.returns
@@ -22,7 +22,7 @@ returns g c =
     let j = c.args.job.now in
     let r = c.args.region.now in
     let rows = c.args.rows.now in
-    let u = answered_none (unfit (content_of j) (sides_of r) (length rows)) _ _ c.in-ok-evaluate.ensures.told in
+    let u = answered_none (unfit (content_of j) (sides_of r) (length rows)) _ _ c.in_ok-evaluate.ensures.told in
     let f = fit_in (content_of j) (sides_of r) (length rows) u in
     let n = nested_in (sides_of r) (sides_of j.fields.start) f.inside in
     let w = c.evaluate.ensures.filled ∙ ap (λ o. scratch o k (content_of j) (sides_of r) rows) u in

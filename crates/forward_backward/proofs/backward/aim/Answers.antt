@@ -28,8 +28,8 @@ next k n f i rows h =
     aimed_turn k n ts i rows (omega arith)
     ∙ ap (λ t. and_then (narrowed k n rows t.register (record { lo = t.low; hi = t.high })) (aimed k n (drop (i + 1) ts))) (get_or-take f.goals f.targets i no_target h)
 
-pub returns-in-err-narrow : goal.returns-in-err-narrow
-returns-in-err-narrow g c =
+pub returns-in_err-narrow : goal.returns-in_err-narrow
+returns-in_err-narrow g c =
     let k = g.R.Range.kind in
     let n = g.R.Narrowing.keeper in
     let f = c.args.job.now.fields in
@@ -40,8 +40,8 @@ returns-in-err-narrow g c =
     let ah = a.high in
     let wl : SFits w64 t.low = omega (arith, ints) in
     let wh : SFits w64 t.high = omega (arith, ints) in
-    let e = left_none (narrowed k n c.loop-n.rows t.register (record { lo = t.low; hi = t.high })) c.narrow.new.rows (simp to_z-of_z at c.in-err-narrow.ensures) in
-    rw c.from-residual.ensures (none_left _ _ (sym c.loop-n.invariant ∙ next k n f i c.loop-n.rows c.loop-n-test.true ∙ ap (λ o. and_then o (aimed k n (drop (i + 1) (take f.goals f.targets)))) e))
+    let e = left_none (narrowed k n c.loop-n.rows t.register (record { lo = t.low; hi = t.high })) c.narrow.new.rows (simp to_z-of_z at c.in_err-narrow.ensures) in
+    rw c.from_residual.ensures (none_left _ _ (sym c.loop-n.invariant ∙ next k n f i c.loop-n.rows c.loop-n-test.true ∙ ap (λ o. and_then o (aimed k n (drop (i + 1) (take f.goals f.targets)))) e))
 
 pub loop-n-preserved : goal.loop-n-preserved
 loop-n-preserved g c =
@@ -55,7 +55,7 @@ loop-n-preserved g c =
     let ah = a.high in
     let wl : SFits w64 t.low = omega (arith, ints) in
     let wh : SFits w64 t.high = omega (arith, ints) in
-    let e = left_some (narrowed k n c.loop-n.rows t.register (record { lo = t.low; hi = t.high })) c.narrow.new.rows (simp to_z-of_z at c.in-ok-narrow.ensures) in
+    let e = left_some (narrowed k n c.loop-n.rows t.register (record { lo = t.low; hi = t.high })) c.narrow.new.rows (simp to_z-of_z at c.in_ok-narrow.ensures) in
     sym (next k n f i c.loop-n.rows c.loop-n-test.true ∙ ap (λ o. and_then o (aimed k n (drop (i + 1) (take f.goals f.targets)))) e) ∙ c.loop-n.invariant
 
 pub returns : goal.returns

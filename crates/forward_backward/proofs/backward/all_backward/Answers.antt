@@ -21,8 +21,8 @@ turn-requires g c =
     let r = c.requires.room in
     record { room = omega arith; wired = program_wired f c.loop-j.left.knobs (c.loop-j.j - 1) q h }
 
-pub returns-in-err-left : goal.returns-in-err-left
-returns-in-err-left g c =
+pub returns-in_err-left : goal.returns-in_err-left
+returns-in_err-left g c =
     let k = g.R.Range.kind in
     let n = g.R.Narrowing.keeper in
     let f = c.args.job.now.fields in
@@ -30,8 +30,8 @@ returns-in-err-left g c =
     let s : State = record { rows = c.loop-j.rows; box = sides_of c.loop-j.left } in
     let p = c.loop-j.auto.j in
     let h : j - 1 < f.registers = let t = c.loop-j-test.true in omega arith in
-    let e = ap (λ i. turned k n i (j - 1) s) (get_or-take f.registers f.program (j - 1) no_instruction h) ∙ turned_none _ c.turn.new.rows c.in-err-left.ensures in
-    ap boxed c.from-residual.ensures
+    let e = ap (λ i. turned k n i (j - 1) s) (get_or-take f.registers f.program (j - 1) no_instruction h) ∙ turned_none _ c.turn.new.rows c.in_err-left.ensures in
+    ap boxed c.from_residual.ensures
     ∙ sym (ap box_of (backward_turn k n (program_of f) j s c.loop-j-test.true ∙ ap (λ o. and_then o (backward k n (program_of f) (j - 1))) e))
     ∙ c.loop-j.invariant.0
 
@@ -42,10 +42,10 @@ loop-j-preserved g c =
     let f = c.args.job.now.fields in
     let j = c.loop-j.j in
     let s : State = record { rows = c.loop-j.rows; box = sides_of c.loop-j.left } in
-    let left = c.in-ok-left.left in
+    let left = c.in_ok-left.left in
     let p = c.loop-j.auto.j in
     let h : j - 1 < f.registers = let t = c.loop-j-test.true in omega arith in
-    let e = ap (λ i. turned k n i (j - 1) s) (get_or-take f.registers f.program (j - 1) no_instruction h) ∙ turned_some _ left c.turn.new.rows c.in-ok-left.ensures in
+    let e = ap (λ i. turned k n i (j - 1) s) (get_or-take f.registers f.program (j - 1) no_instruction h) ∙ turned_some _ left c.turn.new.rows c.in_ok-left.ensures in
     let long : length (sides_of left) ≡ length (sides_of c.loop-j.left) = subst (λ o. AsLong (sides_of c.loop-j.left) (box_of o)) e (turned_long k n (get_or (program_of f) (j - 1) no_instruction) (j - 1) s) in
     let a = knobs_long left in
     let b = knobs_long c.loop-j.left in

@@ -9,9 +9,9 @@ lines a b d = a ++ (codes "\n" ++ (b ++ (codes "\n" ++ d)))
 
 pub returns : goal.returns
 returns c =
-    let a = c.in-ok-first.ensures in
-    let b = c.in-ok-plain.ensures in
-    let d = c.in-ok-raster.ensures in
-    let h : IfOk c.format.result (λ t. string_bytes t ≡ lines (string_bytes c.in-ok-first.first) (string_bytes c.in-ok-plain.plain) (string_bytes c.in-ok-raster.raster)) = c.format.ensures.ok in
-    let e : lines (string_bytes c.in-ok-first.first) (string_bytes c.in-ok-plain.plain) (string_bytes c.in-ok-raster.raster) ≡ job_text (content_of c.args.job.now) = (λ i. lines (a i) (b i) (d i)) in
+    let a = c.in_ok-first.ensures in
+    let b = c.in_ok-plain.ensures in
+    let d = c.in_ok-raster.ensures in
+    let h : IfOk c.format.result (λ t. string_bytes t ≡ lines (string_bytes c.in_ok-first.first) (string_bytes c.in_ok-plain.plain) (string_bytes c.in_ok-raster.raster)) = c.format.ensures.ok in
+    let e : lines (string_bytes c.in_ok-first.first) (string_bytes c.in_ok-plain.plain) (string_bytes c.in_ok-raster.raster) ≡ job_text (content_of c.args.job.now) = (λ i. lines (a i) (b i) (d i)) in
     subst (λ (y : List ℕ). IfOk c.format.result (λ x. string_bytes x ≡ y)) e h

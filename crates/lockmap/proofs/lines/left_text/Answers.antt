@@ -32,7 +32,7 @@ returns g c =
     let was = c.if-not-cut.ensures in
     let e = something_left (left_with 64 f (content_of j) b) b after (sym was.told) was.left in
     let q : Some after ≡ f (content_of j) b = sym e ∙ start_left f j in
-    let t : string_bytes c.in-ok-text.text ≡ c.args.name.now ++ codes " leaves" = c.in-ok-text.ensures.ok in
-    let w : string_bytes c.in-ok-text.text ++ sides_text after ≡ line c.args.name.now (f (content_of j) b) =
+    let t : string_bytes c.in_ok-text.text ≡ c.args.name.now ++ codes " leaves" = c.in_ok-text.ensures.ok in
+    let w : string_bytes c.in_ok-text.text ++ sides_text after ≡ line c.args.name.now (f (content_of j) b) =
     ap (λ x. x ++ sides_text after) t ∙ append_assoc c.args.name.now (codes " leaves") (sides_text after) ∙ ap (line c.args.name.now) q in
     subst (λ (x : List ℕ). IfOk c.sides_text.result (λ t. string_bytes t ≡ x)) w c.sides_text.ensures

@@ -10,7 +10,7 @@ loop-k-preserved c =
     let m = r.room in
     let h : c.loop-k.k < length r.sides = omega arith in
     joined r.sides c.loop-k.k c.index-region-k.result (string_bytes c.args.text) (string_bytes c.loop-k.text) _ (string_bytes c.push_str.new.self) h
-    c.loop-k.invariant (c.as_str.ensures.value ∙ c.in-ok-side.ensures) c.in-ok-push_str.ensures.bytes
+    c.loop-k.invariant (c.as_str.ensures.value ∙ c.in_ok-side.ensures) c.in_ok-push_str.ensures.bytes
 
 pub returns : goal.returns
 returns c =

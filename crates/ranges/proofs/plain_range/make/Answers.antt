@@ -5,10 +5,10 @@ use Rattle.ranges.specs.Spans.{span_ends}
 use Rattle.ranges.specs.Fitting.{fit_in, fit_out, plain_is, plain_no}
 use Rattle.ranges.proofs.plain_range.make.Goals as goal
 
-pub invariant-of-result : goal.invariant-of-result
-invariant-of-result c =
+pub invariant_of-result : goal.invariant_of-result
+invariant_of-result c =
     let o = fit_in (span_ends c.args.span) (sym c.if-not-fits.ensures) in
-    (omega (arith, ints), (omega (arith, ints), (omega (arith, ints), tt)))
+    record { above = omega (arith, ints); order = omega (arith, ints); below = omega (arith, ints) }
 
 pub returns : goal.returns
 returns c =

@@ -41,8 +41,8 @@ returns-then-not-divides c =
     let d = divided_at s _ t (fit_in (span_ends s) (sym c.if-not-fits.ensures)) c.if-not-divides.ensures in
     sym (raster_no (span_ends s) t (λ f. both_ways _ d (divided_out t (s.high -ℤ s.low) f.whole)))
 
-pub invariant-of-result : goal.invariant-of-result
-invariant-of-result c =
+pub invariant_of-result : goal.invariant_of-result
+invariant_of-result c =
     let s = c.args.span in
     let o = fit_in (span_ends s) (sym c.if-not-fits.ensures) in
     let l : stored s.low ≡ s.low = omega (arith, ints) in

@@ -38,8 +38,8 @@ returns c =
     let fh : SFits w64 s.high = omega (arith, ints) in
     let gl : SFits w64 (b -ℤ s.low) = omega (arith, ints) in
     let gh : SFits w64 (s.high -ℤ b) = omega (arith, ints) in
-    let ul : SFits w64 c.floor.result = record { sfits = c.floor.type-inv } in
-    let uh : SFits w64 c.floor-2.result = record { sfits = c.floor-2.type-inv } in
+    let ul : SFits w64 c.floor.result = record { sfits = c.floor.type_inv } in
+    let uh : SFits w64 c.floor-2.result = record { sfits = c.floor-2.type_inv } in
     let vl = c.floor.ensures.bound in
     let vh = c.floor-2.ensures.bound in
     let wl : SFits w64 (b -ℤ c.floor.result) = omega (arith, ints) in

@@ -9,12 +9,12 @@ pub loop-k-init : goal.loop-k-init
 loop-k-init c = record { long = refl; clean = refl; front = refl }
 
 pub loop-k-preserved : goal.loop-k-preserved
-loop-k-preserved c = rw map-set (filled_more _ _ 4 _ _ c.loop-k.invariant _ (search rules) c.in-ok-side.ensures)
+loop-k-preserved c = rw map-set (filled_more _ _ 4 _ _ c.loop-k.invariant _ (search rules) c.in_ok-side.ensures)
 
-pub returns-in-err-side : goal.returns-in-err-side
-returns-in-err-side c =
-    let p = err_from_is_err_and c.from-residual.result c.from-residual.ensures.1 in
-    rw (p.1, p.2) (filled_broke _ _ 4 _ _ c.loop-k.invariant c.args.count _ (search rules) c.in-err-side.ensures)
+pub returns-in_err-side : goal.returns-in_err-side
+returns-in_err-side c =
+    let p = err_from_is_err_and c.from_residual.result c.from_residual.ensures.1 in
+    rw (p.1, p.2) (filled_broke _ _ 4 _ _ c.loop-k.invariant c.args.count _ (search rules) c.in_err-side.ensures)
 
 pub returns : goal.returns
 returns c = rw take-map at (filled_all _ _ 4 _ _ c.loop-k.invariant c.args.count c.loop-k-test.false c.loop-k.auto.k-end)

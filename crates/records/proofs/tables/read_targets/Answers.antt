@@ -8,12 +8,12 @@ pub loop-k-init : goal.loop-k-init
 loop-k-init c = record { long = refl; clean = refl; front = refl }
 
 pub loop-k-preserved : goal.loop-k-preserved
-loop-k-preserved c = filled_more _ _ 8 _ _ c.loop-k.invariant _ (search rules) c.in-ok-target.ensures
+loop-k-preserved c = filled_more _ _ 8 _ _ c.loop-k.invariant _ (search rules) c.in_ok-target.ensures
 
-pub returns-in-err-target : goal.returns-in-err-target
-returns-in-err-target c =
-    let p = err_from_is_err_and c.from-residual.result c.from-residual.ensures.1 in
-    rw (p.1, p.2) (filled_broke _ _ 8 _ _ c.loop-k.invariant c.args.count _ (search rules) c.in-err-target.ensures)
+pub returns-in_err-target : goal.returns-in_err-target
+returns-in_err-target c =
+    let p = err_from_is_err_and c.from_residual.result c.from_residual.ensures.1 in
+    rw (p.1, p.2) (filled_broke _ _ 8 _ _ c.loop-k.invariant c.args.count _ (search rules) c.in_err-target.ensures)
 
 pub returns : goal.returns
 returns c = filled_all _ _ 8 _ _ c.loop-k.invariant c.args.count c.loop-k-test.false c.loop-k.auto.k-end

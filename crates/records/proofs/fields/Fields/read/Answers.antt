@@ -6,24 +6,24 @@ use Rattle.records.proofs.Exactly.{exact_fields}
 use Rattle.records.proofs.Firsts.{told_first}
 use Rattle.records.proofs.fields.Fields.read.Goals as goal
 
-pub returns-in-err-counts : goal.returns-in-err-counts
-returns-in-err-counts c =
-    let p = err_from_is_err_and c.from-residual.result c.from-residual.ensures.1 in
-    let t = no_layout c.args.bytes.now _ c.in-err-counts.ensures in
+pub returns-in_err-counts : goal.returns-in_err-counts
+returns-in_err-counts c =
+    let p = err_from_is_err_and c.from_residual.result c.from_residual.ensures.1 in
+    let t = no_layout c.args.bytes.now _ c.in_err-counts.ensures in
     rw (p.1, p.2) (record {
       told = t;
-      exact = exact_fields c.args.bytes.now (Err _) (λ i. omega (arith, c.type-inv.bytes i)) t;
+      exact = exact_fields c.args.bytes.now (Err _) (λ i. omega (arith, c.type_inv.bytes i)) t;
       first = told_first c.args.bytes.now (Err _) t;
     })
 
 pub read_fields-requires : goal.read_fields-requires
-read_fields-requires c = shaped_counts c.args.bytes.now _ c.in-ok-counts.ensures
+read_fields-requires c = shaped_counts c.args.bytes.now _ c.in_ok-counts.ensures
 
 pub returns : goal.returns
 returns c =
-    let t = whole c.args.bytes.now _ c.in-ok-counts.ensures _ c.read_fields.ensures in
+    let t = whole c.args.bytes.now _ c.in_ok-counts.ensures _ c.read_fields.ensures in
     record {
       told = t;
-      exact = exact_fields c.args.bytes.now c.read_fields.result (λ i. omega (arith, c.type-inv.bytes i)) t;
+      exact = exact_fields c.args.bytes.now c.read_fields.result (λ i. omega (arith, c.type_inv.bytes i)) t;
       first = told_first c.args.bytes.now c.read_fields.result t;
     }
