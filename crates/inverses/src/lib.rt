@@ -9,6 +9,7 @@
 //! Only the two ends of a row count, and any two numbers do: no rule asks that they be in order.
 //! Which numbers of a range to keep, and when, is left to the crates above.
 #![tactic(auto)]
+
 ghost use Rattle.std.specs.Prelude.{◌≡◌, ◌^◌, pos, negsuc, ◌+ℤ◌, ◌-ℤ◌, ◌*ℤ◌, ◌≤ℤ◌};
 ghost use Rattle.std.specs.Int.{int_min};
 ghost use Rattle.inverses.specs.Inverses.{back_factor, back_lesser, back_minuend, back_shifted, back_square, back_subtrahend, back_sum, divisor, known_ends};

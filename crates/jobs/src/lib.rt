@@ -12,6 +12,7 @@
 //! row holds its register's value at every setting of the box.
 //! What the targets say of a box, and everything that sorts boxes, is left to the crates above.
 #![tactic(auto)]
+
 mod facts;
 pub mod job;
 pub mod laws;

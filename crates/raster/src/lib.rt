@@ -14,6 +14,7 @@
 //!
 //! The plain ends themselves are worked out in `ranges::spans`.
 #![tactic(auto)]
+
 pub mod laws;
 mod making;
 mod powers;

@@ -6,16 +6,16 @@ use Rattle.inverses.specs.InverseLaws.{InverseBoth, Known}
 use Rattle.inverses.proofs.Factors.{factor_inverse, factor_none, factor_some}
 use Rattle.inverses.proofs.of_factor.Goals as goal
 
-pub returns-then-has-zero : goal.returns-then-has-zero
-returns-then-has-zero c =
+pub returns-then-has_zero : goal.returns-then-has_zero
+returns-then-has_zero c =
     let z = ends c.args.z in
     let y = ends c.args.y in
-    let e = factor_none z y (sym c.if-has-zero.ensures) in
+    let e = factor_none z y (sym c.if-has_zero.ensures) in
     record { value = e; sound = subst (Known (InverseBoth ◌*ℤ◌ z y)) (sym e) (factor_inverse z y) }
 
 pub returns : goal.returns
 returns c =
     let z = ends c.args.z in
     let y = ends c.args.y in
-    let e = factor_some z y _ (sym c.if-has-zero.ensures) (ends_at _ _ _ _ (grind (arith, to_z-of_z)) (grind (arith, to_z-of_z))) in
+    let e = factor_some z y _ (sym c.if-has_zero.ensures) (ends_at _ _ _ _ (grind (arith, to_z-of_z)) (grind (arith, to_z-of_z))) in
     record { value = e; sound = subst (Known (InverseBoth ◌*ℤ◌ z y)) (sym e) (factor_inverse z y) }

@@ -48,7 +48,13 @@ invariant_of-result c =
     let l : stored s.low ≡ s.low = omega (arith, ints) in
     let h : stored s.high ≡ s.high = omega (arith, ints) in
     let d = divided_at s _ c.args.power o c.if-not-divides.ensures in
-    (omega (arith, ints), (omega (arith, ints), (omega (arith, ints), (omega arith, (whole_at s.low s.high (stored s.low) (stored s.high) c.args.power l h d, tt)))))
+    record {
+      above = omega (arith, ints);
+      order = omega (arith, ints);
+      below = omega (arith, ints);
+      limit = omega arith;
+      whole = whole_at s.low s.high (stored s.low) (stored s.high) c.args.power l h d;
+    }
 
 pub returns : goal.returns
 returns c =
