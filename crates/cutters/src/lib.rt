@@ -13,6 +13,7 @@
 //! `Repeat` one cutter up to 16 times. They hold cutters by value, and lose no setting because those
 //! below lose none. What the scratch rows hold after a cut is left free.
 #![tactic(auto)]
+
 pub mod cutter;
 pub mod idle;
 pub mod repeat;

@@ -11,6 +11,7 @@
 //! No proof here names a kind of range besides the plain one, by which a job is read.
 //! What is done with a box is left to the crates above.
 #![tactic(auto)]
+
 pub mod evaluate;
 pub mod judge;
 pub mod says;

@@ -17,10 +17,10 @@ returns-then-not-cut g c =
     let f = g.C.Cutter.leaves s.inner in
     let n = turns s.times in
     let b = sides_of c.loop-turn.region in
-    let i : c.loop-turn.-turn < n = omega arith in
+    let i : c.loop-turn._turn < n = omega arith in
     let w = left_with (length rows) f (content_of j) in
     let e = ap (λ m. left_with m f (content_of j) b) (sym c.loop-turn.auto.rows) ∙ nothing_left (cut_to f j c.loop-turn.region c.loop-turn.rows) (sym c.if-not-cut.ensures.told) in
-    let q = repeat_with (length rows) n f (content_of j) (sides_of r) ∙ sym c.loop-turn.invariant ∙ turn_none w n c.loop-turn.-turn b i e in
+    let q = repeat_with (length rows) n f (content_of j) (sides_of r) ∙ sym c.loop-turn.invariant ∙ turn_none w n c.loop-turn._turn b i e in
     let a = left_nothing (repeated n f) (repeat_lawful f n (g.met.C.Cutter.lawful s.inner)) j r rows (sides_of r) q refl in
     record { told = a.told; left = a.left; safe = a.safe }
 
@@ -38,7 +38,7 @@ returns-then-inside g c =
     let same = box_same b (sides_of after) (region_in_order after) (sym c.if-inside.ensures.value) was.safe.within in
     let w = left_with (length rows) f (content_of j) in
     let e = ap (λ m. left_with m f (content_of j) b) (sym c.loop-turn.auto.rows) ∙ something_left (cut_to f j c.loop-turn.region c.loop-turn.rows) b (sides_of after) (sym was.told) was.left ∙ ap Some same in
-    let q = repeat_with (length rows) n f (content_of j) (sides_of r) ∙ sym c.loop-turn.invariant ∙ turn_same w (n - c.loop-turn.-turn) b e ∙ ap Some (sym same) in
+    let q = repeat_with (length rows) n f (content_of j) (sides_of r) ∙ sym c.loop-turn.invariant ∙ turn_same w (n - c.loop-turn._turn) b e ∙ ap Some (sym same) in
     let a = left_box (repeated n f) (repeat_lawful f n (g.met.C.Cutter.lawful s.inner)) j r rows (sides_of after) q in
     record { told = a.told; left = a.left; safe = a.safe }
 
@@ -51,10 +51,10 @@ loop-turn-preserved g c =
     let n = turns s.times in
     let b = sides_of c.loop-turn.region in
     let was = c.if-not-cut.ensures in
-    let i : c.loop-turn.-turn < n = omega arith in
+    let i : c.loop-turn._turn < n = omega arith in
     let w = left_with (length rows) f (content_of j) in
     let e = ap (λ m. left_with m f (content_of j) b) (sym c.loop-turn.auto.rows) ∙ something_left (cut_to f j c.loop-turn.region c.loop-turn.rows) b (sides_of c.cut.new.region) (sym was.told) was.left in
-    sym (turn_some w n c.loop-turn.-turn b (sides_of c.cut.new.region) i e) ∙ c.loop-turn.invariant
+    sym (turn_some w n c.loop-turn._turn b (sides_of c.cut.new.region) i e) ∙ c.loop-turn.invariant
 
 pub loop-turn-init : goal.loop-turn-init
 loop-turn-init g c = turns_start (left_with (length c.args.rows.now) (g.C.Cutter.leaves c.args.self.now.inner) (content_of c.args.job.now)) (turns c.args.self.now.times) (sides_of c.args.region.now)
@@ -68,8 +68,8 @@ returns g c =
     let f = g.C.Cutter.leaves s.inner in
     let n = turns s.times in
     let b = sides_of c.loop-turn.region in
-    let i : n ≤ c.loop-turn.-turn = omega arith in
+    let i : n ≤ c.loop-turn._turn = omega arith in
     let w = left_with (length rows) f (content_of j) in
-    let q = repeat_with (length rows) n f (content_of j) (sides_of r) ∙ sym c.loop-turn.invariant ∙ turns_over w n c.loop-turn.-turn b i in
+    let q = repeat_with (length rows) n f (content_of j) (sides_of r) ∙ sym c.loop-turn.invariant ∙ turns_over w n c.loop-turn._turn b i in
     let a = left_box (repeated n f) (repeat_lawful f n (g.met.C.Cutter.lawful s.inner)) j r rows b q in
     record { told = a.told; left = a.left; safe = a.safe }

@@ -8,4 +8,4 @@ use Rattle.cutters.proofs.repeat.RepeatCutter.cut.Given as goal
 abbrev pub invariant-loop-turn : goal.invariant-loop-turn
 invariant-loop-turn g l =
     let f = left_with (length l.initial.rows) (g.C.Cutter.leaves l.self.inner) (content_of l.job) in
-    again f (turns l.self.times - l.-turn) (sides_of l.region) ≡ again f (turns l.self.times) (sides_of l.initial.region)
+    again f (turns l.self.times - l._turn) (sides_of l.region) ≡ again f (turns l.self.times) (sides_of l.initial.region)

@@ -1,8 +1,8 @@
 use Rattle.std.proofs.Common.{◌≡◌, ◌<◌, ◌++◌, map, length, take, string_bytes, ap, ◌∙◌, arith}
 use Rattle.boxes.specs.Views.{ends_of}
-use Rattle.lockmap.specs.Lines.{sides_text}
-use Rattle.lockmap.proofs.Joining.{joined}
-use Rattle.lockmap.proofs.lines.sides_text.Goals as goal
+use Rattle.report.specs.Lines.{sides_text}
+use Rattle.report.proofs.Joining.{joined}
+use Rattle.report.proofs.lines.sides_text.Goals as goal
 
 pub loop-k-preserved : goal.loop-k-preserved
 loop-k-preserved c =

@@ -4,7 +4,7 @@ use Rattle.std.proofs.lemmas.List.{append-nil, map_more}
 use Rattle.boxes.specs.Boxes.{Ends}
 use Rattle.boxes.specs.Views.{ends_of}
 use Rattle.boxes.specs.declared.side.Side.{Side}
-use Rattle.lockmap.specs.Lines.{side_text, sides_text}
+use Rattle.report.specs.Lines.{side_text, sides_text}
 
 -- one side more
 sides_push : (box : List Ends) (e : Ends) → sides_text (box ++ (e ∷ [])) ≡ sides_text box ++ side_text e

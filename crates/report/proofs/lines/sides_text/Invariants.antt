@@ -1,7 +1,7 @@
 use Rattle.std.proofs.Common.{◌≡◌, ◌++◌, map, take, string_bytes}
 use Rattle.boxes.specs.Views.{ends_of}
-use Rattle.lockmap.specs.Lines.{sides_text}
-use Rattle.lockmap.proofs.lines.sides_text.Given as goal
+use Rattle.report.specs.Lines.{sides_text}
+use Rattle.report.proofs.lines.sides_text.Given as goal
 
 -- the first k sides are written
 abbrev pub invariant-loop-k : goal.invariant-loop-k

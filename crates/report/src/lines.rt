@@ -1,7 +1,7 @@
 ghost use Rattle.std.specs.Prelude.{◌≡◌, ◌++◌, IfOk, string_bytes};
 ghost use Rattle.boxes.specs.Views.{ends_of, sides_of};
 ghost use Rattle.jobs.specs.Reading.{content_of, verdict};
-ghost use Rattle.lockmap.specs.Lines.{accepted, job_text, left_line, refused, said, side_text, sides_text, word};
+ghost use Rattle.report.specs.Lines.{accepted, job_text, left_line, refused, said, side_text, sides_text, word};
 
 use boxes::region::Region;
 use boxes::side::Side;

@@ -1,8 +1,8 @@
 -- The text is the job's, by the numbers that its methods give and what its targets say.
 use Rattle.std.proofs.Common.{◌≡◌, ℕ, List, IfOk, string_bytes, ap, ◌∙◌, subst}
 use Rattle.jobs.specs.Reading.{content_of}
-use Rattle.lockmap.specs.Lines.{accepted, accepted_text, word}
-use Rattle.lockmap.proofs.lines.accepted_line.Goals as goal
+use Rattle.report.specs.Lines.{accepted, accepted_text, word}
+use Rattle.report.proofs.lines.accepted_line.Goals as goal
 
 pub returns : goal.returns
 returns c =

@@ -3,8 +3,8 @@ use Rattle.std.proofs.Common.{◌≡◌, IfOk, string_bytes, subst, arith, w32, 
 use Rattle.std.proofs.lemmas.Int.{ints}
 use Rattle.boxes.specs.Boxes.{Ends}
 use Rattle.boxes.specs.Views.{ends_of}
-use Rattle.lockmap.specs.Lines.{side_text}
-use Rattle.lockmap.proofs.lines.side_text.Goals as goal
+use Rattle.report.specs.Lines.{side_text}
+use Rattle.report.proofs.lines.side_text.Goals as goal
 
 pub returns : goal.returns
 returns c =

@@ -1,7 +1,7 @@
 -- The text is the refusal's, by the number of its reason.
 use Rattle.std.proofs.Common.{◌≡◌, ℕ, List, IfOk, string_bytes, ap, subst}
-use Rattle.lockmap.specs.Lines.{refused, refused_text}
-use Rattle.lockmap.proofs.lines.refused_line.Goals as goal
+use Rattle.report.specs.Lines.{refused, refused_text}
+use Rattle.report.proofs.lines.refused_line.Goals as goal
 
 pub returns : goal.returns
 returns c =

@@ -1,7 +1,7 @@
 use Rattle.std.proofs.Common.{◌≡◌, ℕ, List, ◌++◌, IfOk, string_bytes, codes, subst}
 use Rattle.jobs.specs.Reading.{content_of}
-use Rattle.lockmap.specs.Lines.{job_text}
-use Rattle.lockmap.proofs.lines.job_text.Goals as goal
+use Rattle.report.specs.Lines.{job_text}
+use Rattle.report.proofs.lines.job_text.Goals as goal
 
 -- three lines
 abbrev lines : List ℕ → List ℕ → List ℕ → List ℕ

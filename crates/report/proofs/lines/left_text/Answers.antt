@@ -5,9 +5,9 @@ use Rattle.jobs.specs.Reading.{content_of}
 use Rattle.cutters.specs.Cutting.{left_with}
 use Rattle.cutters.proofs.Turning.{nothing_left, something_left}
 use Rattle.forward_backward.specs.Backward.{forward_backward}
-use Rattle.lockmap.specs.Lines.{left_text, sides_text}
-use Rattle.lockmap.proofs.Leaving.{start_left}
-use Rattle.lockmap.proofs.lines.left_text.Goals as goal
+use Rattle.report.specs.Lines.{left_text, sides_text}
+use Rattle.report.proofs.Leaving.{start_left}
+use Rattle.report.proofs.lines.left_text.Goals as goal
 
 -- the line by what is left
 abbrev line : List ℕ → Option (List Ends) → List ℕ
