@@ -2,6 +2,7 @@
 //! answered, and one lemma that every case of the list is true. The definitions that the cases are about are those
 //! that the contracts of the other crates cite.
 #![tactic(auto)]
+
 ghost use Rattle.cases.specs.Cases.{AllTrue};
 ghost use Rattle.cases.specs.Worked.{worked};
 

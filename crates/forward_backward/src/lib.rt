@@ -11,6 +11,7 @@
 //! (specs/Narrowing): whatever numbers the registers hold that fit the instructions, each step
 //! leaves them held. So no setting that meets the job is lost. No proof here names a kind of range.
 #![tactic(auto)]
+
 mod backward;
 pub mod forward_backward;
 pub mod laws;

@@ -5,6 +5,7 @@
 //! The text is worked out by `lines::text`, whose contract gives its bytes for every record. Only
 //! reading the input and printing the text stand outside the proof.
 #![tactic(auto)]
+
 mod lines;
 
 use crate::lines::text;

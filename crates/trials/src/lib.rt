@@ -2,6 +2,7 @@
 //! made by hand, bytes that are no record at all, answers of plain and raster ranges, what the targets
 //! of jobs say of boxes, and what cutters leave of them. The crate has no code of its own besides.
 #![tactic(auto)]
+
 #[cfg(test)]
 mod answers;
 #[cfg(test)]
@@ -14,6 +15,8 @@ mod cutters_tests;
 mod hexadecimal;
 #[cfg(test)]
 mod judging_tests;
+#[cfg(test)]
+mod kinds_tests;
 #[cfg(test)]
 mod outside;
 #[cfg(test)]
