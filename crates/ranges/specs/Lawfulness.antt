@@ -86,6 +86,9 @@ within_by k r l h first last on = (
   λ f. and_from _ _ (is_le _ _ (f r.low first).0) (is_le _ _ (f r.high last).1),
 )
 
+within_tells : (r : Row) (l h : ℤ) → Valid plain_kind r → Tells (int_le l r.low && int_le r.high h) ((x : ℤ) → Holds plain_kind r x → (l ≤ℤ x) × (x ≤ℤ h))
+within_tells r l h v = within_by plain_kind r l h (holds_out r r.low (low_in r v)) (holds_out r r.high (high_on (ends r) (valid_in r v).order)) (holds_in r)
+
 apart_tells : (r : Row) (l h : ℤ) → Valid plain_kind r → Tells (int_lt (int_min r.high h) (int_max r.low l)) ((x : ℤ) → Holds plain_kind r x → l ≤ℤ x → x ≤ℤ h → ⊥)
 apart_tells r l h v =
     let o = valid_in r v in (
@@ -120,7 +123,7 @@ plain_lawful = record {
   squares = plain_one square ends_sqr hull_sqr;
   minima = plain_two int_min ends_min hull_min;
   shifts = λ b. plain_one (shifted b) (ends_shr b) (hull_shr b);
-  withins = λ r l h v. within_by plain_kind r l h (holds_out r r.low (low_in r v)) (holds_out r r.high (high_on (ends r) (valid_in r v).order)) (holds_in r);
+  withins = within_tells;
   aparts = apart_tells;
   fixes = λ r. plain_by (ends r) (λ o. Valid plain_kind (unwrap_or o (row_of nought))) (row_valid (ends r)) (λ _. zero_valid);
   back = λ r v. ap (λ o. unwrap_or o (row_of nought)) (plain_yes (ends r) (valid_in r v)) ∙ stepped r (sym (valid_step r v));

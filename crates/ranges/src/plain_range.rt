@@ -13,7 +13,7 @@ use crate::spans::{Span, add_ends, min_ends, mul_ends, shr_ends, sqr_ends, sub_e
 use boxes::side::Side;
 
 /// The plain range with these ends, if they are in order and within the bound.
-fn make(span: Span) -> Option<Plain>
+fn spanned(span: Span) -> Option<Plain>
     ensures { rowed plain_row result ≡ plain (span_ends span) }
 {
     if !span.fits() {
@@ -23,6 +23,13 @@ fn make(span: Span) -> Option<Plain>
         low: span.low as i32,
         high: span.high as i32,
     })
+}
+
+/// The plain range from low to high, if they are in order and within the bound.
+fn make(low: i64, high: i64) -> Option<Plain>
+    ensures { rowed plain_row result ≡ plain (record { lo = low; hi = high }) }
+{
+    spanned(Span { low, high })
 }
 
 impl Range for Plain {
@@ -42,10 +49,7 @@ impl Range for Plain {
     }
 
     fn constant(c: i32) -> Option<Plain> {
-        make(Span {
-            low: c as i64,
-            high: c as i64,
-        })
+        make(c as i64, c as i64)
     }
 
     fn low(&self) -> i32 {
@@ -57,27 +61,27 @@ impl Range for Plain {
     }
 
     fn add(&self, other: &Plain) -> Option<Plain> {
-        make(add_ends(self.to_row(), other.to_row()))
+        spanned(add_ends(self.to_row(), other.to_row()))
     }
 
     fn sub(&self, other: &Plain) -> Option<Plain> {
-        make(sub_ends(self.to_row(), other.to_row()))
+        spanned(sub_ends(self.to_row(), other.to_row()))
     }
 
     fn mul(&self, other: &Plain) -> Option<Plain> {
-        make(mul_ends(self.to_row(), other.to_row()))
+        spanned(mul_ends(self.to_row(), other.to_row()))
     }
 
     fn sqr(&self) -> Option<Plain> {
-        make(sqr_ends(self.to_row()))
+        spanned(sqr_ends(self.to_row()))
     }
 
     fn min(&self, other: &Plain) -> Option<Plain> {
-        make(min_ends(self.to_row(), other.to_row()))
+        spanned(min_ends(self.to_row(), other.to_row()))
     }
 
     fn shr(&self, by: u32) -> Option<Plain> {
-        make(shr_ends(self.to_row(), by))
+        spanned(shr_ends(self.to_row(), by))
     }
 
     fn within(&self, low: i32, high: i32) -> bool {
@@ -97,10 +101,7 @@ impl Range for Plain {
     }
 
     fn from_row(r: Row) -> Plain {
-        match make(Span {
-            low: r.low as i64,
-            high: r.high as i64,
-        }) {
+        match make(r.low as i64, r.high as i64) {
             Some(p) => p,
             None => Plain { low: 0, high: 0 },
         }
@@ -113,9 +114,6 @@ impl Narrowing for Plain {
     ghost keeps = { plain_keeps };
 
     fn keep(&self, x: i64, y: i64) -> Option<Plain> {
-        make(Span {
-            low: (self.low as i64).max(x),
-            high: (self.high as i64).min(y),
-        })
+        make((self.low as i64).max(x), (self.high as i64).min(y))
     }
 }

@@ -3,7 +3,7 @@ use Rattle.std.proofs.lemmas.Int.{ints}
 use Rattle.std.proofs.lemmas.Bool.{both_ways}
 use Rattle.ranges.specs.Spans.{span_ends}
 use Rattle.ranges.specs.Fitting.{fit_in, fit_out, plain_is, plain_no}
-use Rattle.ranges.proofs.plain_range.make.Goals as goal
+use Rattle.ranges.proofs.plain_range.spanned.Goals as goal
 
 pub invariant_of-result : goal.invariant_of-result
 invariant_of-result c =
