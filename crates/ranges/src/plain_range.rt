@@ -1,7 +1,7 @@
 ghost use Rattle.std.specs.Prelude.{◌≡◌};
+ghost use Rattle.ranges.specs.Hulls.{low_square};
 ghost use Rattle.ranges.specs.Kind.{rowed};
 ghost use Rattle.ranges.specs.Plains.{plain, plain_row, plain_kind, plain_keeper};
-ghost use Rattle.ranges.specs.Spans.{span_ends};
 ghost use Rattle.ranges.specs.Lawfulness.{plain_lawful, plain_keeps};
 ghost use Rattle.ranges.specs.Fitting.{plain_valid};
 
@@ -9,27 +9,35 @@ use crate::narrowing::Narrowing;
 use crate::plain::Plain;
 use crate::range::Range;
 use crate::row::Row;
-use crate::spans::{Span, add_ends, min_ends, mul_ends, shr_ends, sqr_ends, sub_ends};
 use boxes::side::Side;
+use whole::{greatest, least, product, shift_down};
 
-/// The plain range with these ends, if they are in order and within the bound.
-fn spanned(span: Span) -> Option<Plain>
-    ensures { rowed plain_row result ≡ plain (span_ends span) }
-{
-    if !span.fits() {
-        return None;
-    }
-    Some(Plain {
-        low: span.low as i32,
-        high: span.high as i32,
-    })
-}
+const BOUND: i64 = 1 << 30;
 
 /// The plain range from low to high, if they are in order and within the bound.
 fn make(low: i64, high: i64) -> Option<Plain>
     ensures { rowed plain_row result ≡ plain (record { lo = low; hi = high }) }
 {
-    spanned(Span { low, high })
+    if low < -BOUND || low > high || high > BOUND {
+        return None;
+    }
+    Some(Plain {
+        low: low as i32,
+        high: high as i32,
+    })
+}
+
+/// The least square of the numbers from low to high: 0 where they have both signs.
+fn least_square(low: i32, high: i32) -> i64
+    ensures { result ≡ low_square low high }
+{
+    if low >= 0 {
+        product(low, low)
+    } else if high <= 0 {
+        product(high, high)
+    } else {
+        0
+    }
 }
 
 impl Range for Plain {
@@ -61,27 +69,42 @@ impl Range for Plain {
     }
 
     fn add(&self, other: &Plain) -> Option<Plain> {
-        spanned(add_ends(self.to_row(), other.to_row()))
+        let low = self.low as i64 + other.low as i64;
+        let high = self.high as i64 + other.high as i64;
+        make(low, high)
     }
 
     fn sub(&self, other: &Plain) -> Option<Plain> {
-        spanned(sub_ends(self.to_row(), other.to_row()))
+        let low = self.low as i64 - other.high as i64;
+        let high = self.high as i64 - other.low as i64;
+        make(low, high)
     }
 
     fn mul(&self, other: &Plain) -> Option<Plain> {
-        spanned(mul_ends(self.to_row(), other.to_row()))
+        let ll = product(self.low, other.low);
+        let lh = product(self.low, other.high);
+        let hl = product(self.high, other.low);
+        let hh = product(self.high, other.high);
+        make(least(ll, lh, hl, hh), greatest(ll, lh, hl, hh))
     }
 
     fn sqr(&self) -> Option<Plain> {
-        spanned(sqr_ends(self.to_row()))
+        let ll = product(self.low, self.low);
+        let hh = product(self.high, self.high);
+        make(least_square(self.low, self.high), ll.max(hh))
     }
 
     fn min(&self, other: &Plain) -> Option<Plain> {
-        spanned(min_ends(self.to_row(), other.to_row()))
+        let low = self.low.min(other.low);
+        let high = self.high.min(other.high);
+        make(low as i64, high as i64)
     }
 
     fn shr(&self, by: u32) -> Option<Plain> {
-        spanned(shr_ends(self.to_row(), by))
+        make(
+            shift_down(self.low as i64, by),
+            shift_down(self.high as i64, by),
+        )
     }
 
     fn within(&self, low: i32, high: i32) -> bool {

@@ -1,4 +1,4 @@
-//! The plain answer of each operation, by the operands' ends alone. Every kind of range starts from
+//! The plain answer of each operation, by the operands' ends alone. Finer kinds of range start from
 //! it.
 ghost use Rattle.std.specs.Prelude.{◌≡◌};
 ghost use Rattle.ranges.specs.Bounds.{fit};
