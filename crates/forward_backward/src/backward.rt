@@ -45,7 +45,7 @@ fn turn<R: Narrowing>(
 ) -> Option<Region>
     requires room { j < length rows.old }
     requires wired { Before region.knobs j instruction }
-    ensures { TurnedTo (turned R.Range.kind R.Narrowing.keeper instruction j (record { rows = rows.entry.now; box = sides_of region })) result rows.exit.now }
+    ensures { TurnedTo (turned R.Range.kind R.Narrowing.keeper instruction j (record { rows = rows.old; box = sides_of region })) result rows.new }
 {
     let z = row_at::<R>(rows, j);
     narrow_operands::<R>(instruction, rows, j)?;
@@ -56,7 +56,7 @@ fn turn<R: Narrowing>(
 fn all_backward<R: Narrowing>(job: &Job, region: Region, rows: &mut [Row]) -> Option<Region>
     requires knobs { region.knobs ≡ job.now.fields.start.knobs }
     requires room { job.now.fields.registers ≡ length rows.old }
-    ensures { boxed result ≡ box_of (backward R.Range.kind R.Narrowing.keeper (program_of job.now.fields) job.now.fields.registers (record { rows = rows.entry.now; box = sides_of region })) }
+    ensures { boxed result ≡ box_of (backward R.Range.kind R.Narrowing.keeper (program_of job.now.fields) job.now.fields.registers (record { rows = rows.old; box = sides_of region })) }
 {
     let mut left = region;
     for j in (0..job.fields.registers).rev() {
