@@ -1,5 +1,4 @@
 ghost use Rattle.std.specs.Prelude.{◌≡◌};
-ghost use Rattle.ranges.specs.Hulls.{low_square};
 ghost use Rattle.ranges.specs.Kind.{rowed};
 ghost use Rattle.ranges.specs.Plains.{plain, plain_row, plain_kind, plain_keeper};
 ghost use Rattle.ranges.specs.Lawfulness.{plain_lawful, plain_keeps};
@@ -9,10 +8,9 @@ use crate::narrowing::Narrowing;
 use crate::plain::Plain;
 use crate::range::Range;
 use crate::row::Row;
+use crate::spans::{BOUND, least_square};
 use boxes::side::Side;
 use whole::{greatest, least, product, shift_down};
-
-const BOUND: i64 = 1 << 30;
 
 /// The plain range from low to high, if they are in order and within the bound.
 fn make(low: i64, high: i64) -> Option<Plain>
@@ -25,19 +23,6 @@ fn make(low: i64, high: i64) -> Option<Plain>
         low: low as i32,
         high: high as i32,
     })
-}
-
-/// The least square of the numbers from low to high: 0 where they have both signs.
-fn least_square(low: i32, high: i32) -> i64
-    ensures { result ≡ low_square low high }
-{
-    if low >= 0 {
-        product(low, low)
-    } else if high <= 0 {
-        product(high, high)
-    } else {
-        0
-    }
 }
 
 impl Range for Plain {

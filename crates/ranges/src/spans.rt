@@ -9,7 +9,8 @@ ghost use Rattle.ranges.specs.Spans.{span_ends};
 use crate::row::Row;
 use whole::{greatest, least, product, shift_down};
 
-const BOUND: i64 = 1 << 30;
+/// The bound of all values, on either side of 0.
+pub(crate) const BOUND: i64 = 1 << 30;
 
 /// Two ends, wide enough for the plain answer of any operation.
 #[derive(Clone, Copy)]
@@ -62,7 +63,7 @@ pub fn mul_ends(a: Row, b: Row) -> Span
 }
 
 /// The least square of the numbers from low to high: 0 where they have both signs.
-fn least_square(low: i32, high: i32) -> i64
+pub(crate) fn least_square(low: i32, high: i32) -> i64
     ensures { result ≡ low_square low high }
 {
     if low >= 0 {
