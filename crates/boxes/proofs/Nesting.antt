@@ -1,11 +1,15 @@
 -- A box lies inside another exactly where each of its sides lies within the other's.
-use Rattle.std.proofs.Common.{◌≡◌, ℕ, zero, suc, ◌<◌, Bool, true, false, List, [], ◌∷◌, map, length, get_or, ℤ, pos, ◌≤ℤ◌, Decides, sym, refl, ap, subst, arith}
+use Rattle.std.proofs.Common.{◌≡◌, ℕ, zero, suc, ◌<◌, Bool, true, false, List, [], ◌∷◌, map, length, get_or, ℤ, pos, ◌≤ℤ◌, Decides, sym, refl, ap, subst, arith, ◌&&◌}
 use lib.Signed.{le_z}
 use Rattle.std.proofs.lemmas.List.{get_or-map, length-map}
 use Rattle.std.proofs.lemmas.Int.{ints}
 use Rattle.std.proofs.lemmas.Bool.{and_parts, and_from, false≢true}
+use Rattle.std.specs.Bool.{MatchBool}
+use Rattle.std.specs.List.{AllWithin, HoldsAt, zip}
 use Rattle.whole.proofs.Products.{is_le, le_in}
 use Rattle.boxes.specs.Boxes.{Among, Ends, In, Part, covers, nested, nought}
+use Rattle.boxes.specs.Views.{ends_of}
+use Rattle.boxes.specs.declared.side.Side.{Side}
 use Rattle.boxes.proofs.Counting.{InOrder}
 
 -- the ends e lie within the ends f
@@ -119,3 +123,26 @@ nested_part box other r s i =
 
 pub nested_decides : (box other : List Ends) → InOrder box → Decides (nested box other) (Part box other)
 nested_decides box other o = (λ t. nested_part box other (nested_in box other t), λ p. nested_out box other (part_nested box o other p))
+
+-- the first side of a pair lies within the second, or does not
+abbrev pub PairCovers : Bool → Side × Side → Type 0
+PairCovers t p = covers (ends_of p.1) (ends_of p.0) ≡ t
+
+and_false : (a : Bool) → false ≡ (a && false)
+and_false true = refl
+and_false false = refl
+
+-- what a test of the sides, pair by pair, says of two boxes with as many knobs
+pub pairs_nested : (xs ys : List Side) (r : Bool) → length xs ≡ length ys
+    → MatchBool r (AllWithin (PairCovers true) (zip xs ys) 0 (length (zip xs ys))) ((k : ℕ) × (k < length (zip xs ys)) × HoldsAt (PairCovers false) (zip xs ys) k)
+    → r ≡ nested (map ends_of xs) (map ends_of ys)
+unfolding nested
+pairs_nested [] [] true e m = refl
+pairs_nested [] [] false e m = let h = m.1 in absurd (omega arith)
+pairs_nested [] (y ∷ ys) r e m = absurd (omega arith)
+pairs_nested (x ∷ xs) [] r e m = absurd (omega arith)
+pairs_nested (x ∷ xs) (y ∷ ys) true e m =
+    let h : covers (ends_of y) (ends_of x) ≡ true = m 0 (x, y) (omega arith) (omega arith) in
+    rw h (pairs_nested xs ys true (omega arith) (λ k d l u. m (suc k) d (omega arith) (omega arith)))
+pairs_nested (x ∷ xs) (y ∷ ys) false e (zero, b, h) = let t : covers (ends_of y) (ends_of x) ≡ false = h (x, y) in rw t refl
+pairs_nested (x ∷ xs) (y ∷ ys) false e (suc k, b, h) = rw (← pairs_nested xs ys false (omega arith) (k, omega arith, h)) (and_false _)

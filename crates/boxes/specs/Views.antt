@@ -1,16 +1,17 @@
 -- What the values of the code mean: the ends of a side, the sides of a region.
-use Rattle.std.specs.Prelude.{cond, List, map, take, Some, None, Option}
+use Rattle.std.specs.Prelude.{cond, List, map, Some, None, Option}
 use Rattle.boxes.specs.declared.side.Side.{Side}
 use Rattle.boxes.specs.declared.region.Region.{Region}
+use Rattle.tables.specs.Tables.{entries}
 use Rattle.boxes.specs.Boxes.{Ends, good_side}
 
 -- the ends of a side
 abbrev pub ends_of : Side → Ends
 ends_of s = record { lo = s.low; hi = s.high }
 
--- a region, as a list of sides: those of its knobs
+-- a region, as the list of its sides
 abbrev pub sides_of : Region → List Ends
-sides_of r = map ends_of (take r.knobs r.sides)
+sides_of r = map ends_of (entries r.sides)
 
 -- the ends of a side that may be absent
 abbrev pub shown : Option Side → Option Ends

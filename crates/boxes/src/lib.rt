@@ -10,8 +10,5 @@
 //! asks of a setting is left to the crates above.
 #![tactic(auto)]
 
-pub mod counts;
 pub mod region;
-pub mod regions;
 pub mod side;
-pub mod sides;
