@@ -23,7 +23,8 @@ impl<T: Copy, const N: usize> Copy for Table<T, N> {}
 
 impl<T: Copy, const N: usize> Table<T, N> {
     ghost use Rattle.std.specs.Prelude.{◌≡◌, ◌<◌, ◌++◌, ◌∷◌, [], length, slice_set};
-    ghost use Rattle.tables.specs.Tables.{entries};
+    ghost use Rattle.std.specs.Result.{MatchResult};
+    ghost use Rattle.tables.specs.Tables.{Failed, Made, entries};
 
     /// The table with no entries; its memory holds the blank.
     pub fn new(blank: T) -> Self
@@ -65,5 +66,22 @@ impl<T: Copy, const N: usize> Table<T, N> {
         ensures { entries self.new ≡ slice_set (entries self.old) at entry }
     {
         self.cells[at] = entry;
+    }
+
+    /// The table of so many entries, each made by its number, or the first failure.
+    pub fn try_from_fn<E, F: Fn(usize) -> Result<T, E>>(
+        blank: T,
+        count: usize,
+        make: F,
+    ) -> Result<Self, E>
+        requires room { count ≤ N }
+        requires callable { (k : _) → k < count → F.pre make k }
+        ensures { MatchResult result (λ t. Made (F.post make) count (entries t)) (Failed (F.post make) count) }
+    {
+        let mut table = Table::new(blank);
+        for k in 0..count {
+            table.push(make(k)?);
+        }
+        Ok(table)
     }
 }
