@@ -5,7 +5,6 @@ use Rattle.std.specs.List.{flat_map}
 use Rattle.boxes.specs.Boxes.{Ends, nought, good_side}
 use Rattle.records.specs.declared.reason.Reason.TheVariants.{BadLength, BadVersion, BadShape, BadField}
 use Rattle.records.specs.declared.reason.Refusal.{Refusal}
-use Rattle.records.specs.declared.layout.Counts.{Counts}
 use Rattle.records.specs.declared.target.Target.{Target}
 use Rattle.records.specs.declared.instruction.Instruction.{Instruction}
 use Rattle.records.specs.declared.instruction.Instruction.TheVariants.{Const}
@@ -14,7 +13,7 @@ use Rattle.records.specs.Places.{version_place, knobs_place, limit_place, sides_
 use Rattle.records.specs.Faults.{unless}
 use Rattle.records.specs.Rules.{Content, Keeps, good_instruction, good_target, no_target}
 use Rattle.records.specs.Entries.{side_faults, sides_from, instruction_faults, instructions_from, target_faults, targets_from}
-use Rattle.records.specs.Layouts.{instructions_in, targets_in, counts_in, ends_at, head_fault, count_fault, size_fault, layout_fault}
+use Rattle.records.specs.Layouts.{Counts, instructions_in, targets_in, counts_in, ends_at, head_fault, count_fault, size_fault, layout_fault}
 use Rattle.records.specs.Verdicts.{limit_fault, sides_fault, program_fault, targets_fault, field_fault, fault, sides_read, program_read, targets_read, content_in, verdict}
 use Rattle.records.specs.Encoding.{encode_side, encode_instruction, encode_target, table, tables, body, encode}
 use Rattle.records.proofs.Digits.{join16, join32}

@@ -59,7 +59,7 @@ target_clean registers p n l h x en el eh g =
     )
 
 -- an instruction whose fields keep the rules
-row_clean : (p code a b : ℕ) (c : ℤ) (knobs k n x y : ℕ) (z : ℤ) → n ≡ code → x ≡ a → y ≡ b → z ≡ c → Row code a b c knobs k
+pub row_clean : (p code a b : ℕ) (c : ℤ) (knobs k n x y : ℕ) (z : ℤ) → n ≡ code → x ≡ a → y ≡ b → z ≡ c → Row code a b c knobs k
     → (decoded n x y z ≡ decoded code a b c)
     × (first (when (ltb 7 n) BadInstruction p
     ∷ when (leb (a_values n knobs k) x) BadInstruction (p + 1)

@@ -1,8 +1,10 @@
 -- What was read without a fault keeps its rule: an entry, a table, the limit.
-use Rattle.std.proofs.Common.{◌≡◌, ℕ, zero, suc, ◌+◌, ◌*◌, ◌<◌, ◌≤◌, true, not, eqb, ltb, leb, List, ℤ, pos, negsuc, None, Ok, arith}
+use Rattle.std.proofs.Common.{◌≡◌, ℕ, zero, suc, ◌+◌, ◌*◌, ◌<◌, ◌≤◌, true, not, eqb, ltb, leb, List, length, Option, ℤ, pos, negsuc, None, Ok, arith}
+use Rattle.std.proofs.lemmas.List.FromFn.{length-map-range_with_len}
 use Rattle.std.proofs.lemmas.Bool.{and_from, not-false, lt-ltb, leb-false, ltb-false, eqb-false}
 use Rattle.boxes.specs.Boxes.{between, good_side}
 use Rattle.records.specs.declared.reason.Reason.TheVariants.{BadInstruction, BadField}
+use Rattle.records.specs.declared.reason.Refusal.{Refusal}
 use Rattle.records.specs.declared.instruction.Instruction.{Instruction}
 use Rattle.records.specs.declared.target.Target.{Target}
 use Rattle.records.specs.Numbers.{byte, nat16, int16, int32}
@@ -13,6 +15,10 @@ use Rattle.records.specs.Entries.{decoded, a_values, b_values, reached, instruct
 use Rattle.records.specs.Verdicts.{limit_fault}
 use Rattle.records.proofs.Checks.{value_of, none_of, rest_unmet, two_unmet}
 use Rattle.records.proofs.Runs.{every_listed}
+
+-- what was listed without a fault is as long as it should be
+pub listed_long : {A : Type 0} (fault : ℕ → Option Refusal) (item : ℕ → A) (n : ℕ) (xs : List A) → Ok xs ≡ unless (first_of fault n) (listed item n) → length xs ≡ n
+listed_long fault item n xs h = rw (value_of (first_of fault n) (listed item n) xs h) (length-map-range_with_len item 0 n)
 
 -- the fields of an instruction keep the rules of its operation
 pub record Row (code a b : ℕ) (c : ℤ) (knobs k : ℕ) : Type 0 where

@@ -3,12 +3,11 @@ use Rattle.std.proofs.Common.{◌≡◌, ℕ, ◌≤◌, eqb, ltb, leb, List, le
 use Rattle.std.proofs.lemmas.Bool.{ltb-false, eqb-false}
 use Rattle.records.specs.declared.reason.Reason.TheVariants.{BadShape}
 use Rattle.records.specs.declared.reason.Refusal.{Refusal}
-use Rattle.records.specs.declared.layout.Counts.{Counts}
 use Rattle.records.specs.Numbers.{byte}
 use Rattle.records.specs.Places.{knobs_place, program_place, targets_place}
 use Rattle.records.specs.Rules.{Content}
 use Rattle.records.specs.Faults.{unless}
-use Rattle.records.specs.Layouts.{knobs_in, instructions_in, counts_in, ends_at, head_fault, count_fault, size_fault, layout_fault, Shaped}
+use Rattle.records.specs.Layouts.{Counts, knobs_in, instructions_in, counts_in, ends_at, head_fault, count_fault, size_fault, layout_fault, Shaped}
 use Rattle.records.specs.Verdicts.{field_fault, content_in, verdict}
 use Rattle.records.proofs.Checks.{value_of, none_of, went, broke, none_left, none_right, rest_unmet}
 

@@ -2,10 +2,15 @@
 use Rattle.std.specs.Prelude.{◌≡◌, ℕ, ◌+◌, ◌≤◌, not, List, [], ◌∷◌, length, Option, ◌==◌, nat_le, nat_lt}
 use Rattle.records.specs.declared.reason.Reason.TheVariants.{BadLength, BadVersion, BadShape}
 use Rattle.records.specs.declared.reason.Refusal.{Refusal}
-use Rattle.records.specs.declared.layout.Counts.{Counts}
 use Rattle.records.specs.Numbers.{byte, nat32}
 use Rattle.records.specs.Places.{version_place, knobs_place, program_place, targets_place, end_place}
 use Rattle.records.specs.Faults.{when, first}
+
+-- how many knobs, instructions and targets a record has
+pub record Counts : Type 0 where
+  pub knobs : ℕ
+  pub instructions : ℕ
+  pub targets : ℕ
 
 -- how many knobs the record has
 abbrev pub knobs_in : List ℕ → ℕ

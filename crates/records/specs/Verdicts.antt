@@ -1,5 +1,6 @@
 -- What reading a record answers: its first fault in order, or what it says.
-use Rattle.std.specs.Prelude.{ℕ, List, [], ◌∷◌, take, Option, Result, ◌==◌, nat_lt}
+use Rattle.std.specs.Prelude.{ℕ, List, [], ◌∷◌, Option, Result, ◌==◌, nat_lt}
+use Rattle.tables.specs.Tables.{entries}
 use Rattle.boxes.specs.Boxes.{Ends}
 use Rattle.boxes.specs.Views.{sides_of}
 use Rattle.records.specs.declared.reason.Reason.TheVariants.{BadField}
@@ -7,12 +8,11 @@ use Rattle.records.specs.declared.reason.Refusal.{Refusal}
 use Rattle.records.specs.declared.instruction.Instruction.{Instruction}
 use Rattle.records.specs.declared.target.Target.{Target}
 use Rattle.records.specs.declared.fields.Fields.{Fields}
-use Rattle.records.specs.declared.layout.Counts.{Counts}
 use Rattle.records.specs.Numbers.{nat16}
 use Rattle.records.specs.Places.{limit_place, sides_start, program_start, targets_start}
 use Rattle.records.specs.Rules.{Content}
 use Rattle.records.specs.Entries.{side_faults, sides_from, instruction_faults, instructions_from, target_faults, targets_from}
-use Rattle.records.specs.Layouts.{counts_in, layout_fault}
+use Rattle.records.specs.Layouts.{Counts, counts_in, layout_fault}
 use Rattle.records.specs.Faults.{when, or_else, first, first_of, listed, unless}
 
 -- what is wrong with the limit: it lies from 1 to 32,768
@@ -67,11 +67,11 @@ content_in s q = record {
 abbrev pub verdict : List ℕ → Result Content Refusal
 verdict s = unless (fault s) (content_in s (counts_in s))
 
--- what the fields of a job say: the used part of each table
+-- what the fields of a job say: the entries of each table
 abbrev pub content : Fields → Content
 content f = record {
   limit = f.limit;
   sides = sides_of f.start;
-  program = take f.registers f.program;
-  targets = take f.goals f.targets;
+  program = entries f.program;
+  targets = entries f.targets;
 }

@@ -1,28 +1,24 @@
-ghost use Rattle.std.specs.Prelude.{◌≡◌, ◌≤◌, true, length, take};
+ghost use Rattle.std.specs.Prelude.{◌≡◌, ◌≤◌, true, length};
+ghost use Rattle.tables.specs.Tables.{entries};
+ghost use Rattle.boxes.specs.Views.{sides_of};
 ghost use Rattle.records.specs.Rules.{good_program, good_targets};
 
 use crate::instruction::Instruction;
 use crate::target::Target;
 use boxes::region::Region;
+use tables::table::Table;
 
-/// What a job record says, each field within its rule. The start box has the knobs, the program is
-/// the first `registers` instructions, and the job's targets are the first `goals` targets.
+/// What a job record says, each field within its rule. The start box has the knobs.
 #[derive(Clone, Copy)]
 pub struct Fields {
     pub limit: u16,
     pub start: Region,
-    pub registers: usize,
-    pub program: [Instruction; 64],
-    pub goals: usize,
-    pub targets: [Target; 8],
+    pub program: Table<Instruction, 64>,
+    pub targets: Table<Target, 8>,
     ghost positive: { 1 ≤ limit },
     ghost limited: { limit ≤ 32768 },
-    ghost working: { 1 ≤ registers },
-    ghost short: { registers ≤ 64 },
-    ghost room: { registers ≤ length program },
-    ghost aiming: { 1 ≤ goals },
-    ghost few: { goals ≤ 8 },
-    ghost space: { goals ≤ length targets },
-    ghost programmed: { good_program start.knobs (take registers program) ≡ true },
-    ghost aimed: { good_targets registers (take goals targets) ≡ true },
+    ghost working: { 1 ≤ length (entries program) },
+    ghost aiming: { 1 ≤ length (entries targets) },
+    ghost programmed: { good_program (length (sides_of start)) (entries program) ≡ true },
+    ghost aimed: { good_targets (length (entries program)) (entries targets) ≡ true },
 }

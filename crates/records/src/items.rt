@@ -1,56 +1,21 @@
-ghost use Rattle.std.specs.Prelude.{◌≡◌, ◌+◌, ◌≤◌, length, pos};
+ghost use Rattle.std.specs.Prelude.{◌≡◌, ◌+◌, ◌≤◌, length};
 ghost use Rattle.boxes.specs.Boxes.{between};
 ghost use Rattle.boxes.specs.Views.{ends_of};
 ghost use Rattle.records.specs.Faults.{unless, mapped};
-ghost use Rattle.records.specs.Entries.{a_values, b_values, c_reach, instruction_at, instruction_fault, side_at, side_fault, target_at, target_fault};
+ghost use Rattle.records.specs.Entries.{instruction_at, instruction_fault, side_at, side_fault, target_at, target_fault};
 
 use crate::bytes::{read_i16, read_i32};
-use crate::instruction::{CONST, Instruction, KNOB, SHR, SQR, decode};
+use crate::instruction::Instruction;
+use crate::operation::{BOUND, Operation};
 use crate::reason::{Reason, Refusal};
 use crate::target::Target;
-use boxes::side::Side;
-use boxes::sides::{HIGHEST, LOWEST};
-
-/// How far a constant or a target's end may lie from 0: 2^30.
-const BOUND: i32 = 1_073_741_824;
+use boxes::side::{HIGHEST, LOWEST, Side};
 
 /// Whether x lies from low to high.
 fn lies(low: i32, x: i32, high: i32) -> bool
     ensures { result ≡ between low x high }
 {
-    (low <= x) & (x <= high)
-}
-
-/// How many values, from 0, the field a of instruction k may take.
-fn values_of_a(code: u8, knobs: usize, k: usize) -> usize
-    ensures { result ≡ a_values code knobs k }
-{
-    match code {
-        CONST => 1,
-        KNOB => knobs,
-        _ => k,
-    }
-}
-
-/// How many values, from 0, the field b of instruction k may take.
-fn values_of_b(code: u8, k: usize) -> usize
-    ensures { result ≡ b_values code k }
-{
-    match code {
-        CONST | KNOB | SQR => 1,
-        SHR => 31,
-        _ => k,
-    }
-}
-
-/// How far the field c of an operation may lie from 0.
-fn reach_of_c(code: u8) -> i32
-    ensures { result ≡ pos (c_reach code) }
-{
-    match code {
-        CONST => BOUND,
-        _ => 0,
-    }
+    (low..=high).contains(&x)
 }
 
 /// Instruction k of a job with so many knobs, from the seven bytes at a place.
@@ -63,24 +28,23 @@ pub(crate) fn read_instruction(
     requires { at + 7 ≤ length bytes.now }
     ensures { result ≡ unless (instruction_fault bytes.now knobs k at) (instruction_at bytes.now at) }
 {
-    let code = bytes[at];
+    let Ok(operation) = Operation::try_from(bytes[at]) else {
+        return Err(Refusal::new(Reason::BadInstruction, at));
+    };
     let a = bytes[at + 1];
     let b = bytes[at + 2];
     let c = read_i32(bytes, at + 3);
-    if code > SHR {
-        return Err(Refusal::new(Reason::BadInstruction, at));
-    }
-    if values_of_a(code, knobs, k) <= a as usize {
+    if operation.values_of_a(knobs, k) <= a as usize {
         return Err(Refusal::new(Reason::BadInstruction, at + 1));
     }
-    if values_of_b(code, k) <= b as usize {
+    if operation.values_of_b(k) <= b as usize {
         return Err(Refusal::new(Reason::BadInstruction, at + 2));
     }
-    let reach = reach_of_c(code);
+    let reach = operation.reach_of_c();
     if !lies(-reach, c, reach) {
         return Err(Refusal::new(Reason::BadInstruction, at + 3));
     }
-    Ok(decode(code, a, b, c))
+    Ok(operation.instruction(a, b, c))
 }
 
 /// The side in the four bytes at a place.

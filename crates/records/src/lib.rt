@@ -11,12 +11,14 @@
 #![tactic(auto)]
 
 mod bytes;
+mod counts;
+mod entries;
 pub mod fields;
 pub mod instruction;
 mod items;
 mod layout;
+mod operation;
 mod places;
 mod reading;
 pub mod reason;
-mod tables;
 pub mod target;

@@ -3,17 +3,18 @@ ghost use Rattle.records.specs.Numbers.{nat16};
 ghost use Rattle.records.specs.Places.{limit_place};
 ghost use Rattle.records.specs.Faults.{unless, mapped};
 ghost use Rattle.records.specs.Layouts.{Shaped};
+ghost use Rattle.records.specs.Counted.{counted};
 ghost use Rattle.records.specs.Verdicts.{limit_fault, field_fault, content_in, content, verdict};
 ghost use Rattle.records.specs.Rules.{Keeps};
 ghost use Rattle.records.specs.Encoding.{Exact};
 ghost use Rattle.records.specs.Broken.{Broken, Told};
 
 use crate::bytes::read_u16;
+use crate::counts::Counts;
+use crate::entries::{read_instructions, read_sides, read_targets};
 use crate::fields::Fields;
-use crate::layout::{Counts, layout};
-use crate::places::{LIMIT_PLACE, SIDES_START, program_start, targets_start};
+use crate::places::{LIMIT_PLACE, SIDES_START};
 use crate::reason::{Reason, Refusal};
-use crate::tables::{read_instructions, read_sides, read_targets};
 use boxes::region::Region;
 
 /// The limit of a record.
@@ -29,24 +30,29 @@ fn read_limit(bytes: &[u8]) -> Result<u16, Refusal>
 }
 
 /// The fields of a record whose counts and size are right.
-fn read_fields(bytes: &[u8], counts: Counts) -> Result<Fields, Refusal>
-    requires { Shaped counts (length bytes.now) }
-    ensures { mapped content result ≡ unless (field_fault bytes.now counts) (content_in bytes.now counts) }
+fn read_fields(bytes: &[u8], counts: &Counts) -> Result<Fields, Refusal>
+    requires { Shaped (counted counts.now) (length bytes.now) }
+    ensures { mapped content result ≡ unless (field_fault bytes.now (counted counts.now)) (content_in bytes.now (counted counts.now)) }
 {
-    let knobs = counts.knobs;
-    let registers = counts.instructions;
-    let goals = counts.targets;
     let limit = read_limit(bytes)?;
-    let sides = read_sides(bytes, SIDES_START, knobs)?;
-    let program = read_instructions(bytes, knobs, program_start(knobs), registers)?;
-    let targets = read_targets(bytes, registers, targets_start(knobs, registers), goals)?;
-    let start = Region { knobs, sides };
+    let sides = read_sides(bytes, SIDES_START, counts.knobs)?;
+    let program = read_instructions(
+        bytes,
+        counts.knobs,
+        counts.program_start(),
+        counts.instructions,
+    )?;
+    let targets = read_targets(
+        bytes,
+        counts.instructions,
+        counts.targets_start(),
+        counts.targets,
+    )?;
+    let start = Region { sides };
     Ok(Fields {
         limit,
         start,
-        registers,
         program,
-        goals,
         targets,
     })
 }
@@ -58,7 +64,7 @@ impl Fields {
         ensures exact { Exact Keeps bytes.now content result }
         ensures first { Told (Broken bytes.now) result }
     {
-        let counts = layout(bytes)?;
-        read_fields(bytes, counts)
+        let counts = Counts::read(bytes)?;
+        read_fields(bytes, &counts)
     }
 }
