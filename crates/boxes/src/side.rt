@@ -1,5 +1,7 @@
 ghost use Rattle.std.specs.Prelude.{pos, negsuc, ◌≤ℤ◌};
 
+use std::fmt;
+
 /// The lowest number of a knob.
 pub const LOWEST: i32 = -16_384;
 
@@ -46,5 +48,18 @@ impl Side {
         ensures decides { Decides result (Among (ends_of self.now) (ends_of other.now)) }
     {
         (other.low <= self.low) & (self.high <= other.high)
+    }
+}
+
+impl fmt::Display for Side {
+    ghost use Rattle.std.specs.Prelude.{Some};
+    ghost use Rattle.boxes.specs.Views.{ends_of, ends_text};
+
+    ghost output = { λ side. Some (ends_text (ends_of side)) };
+
+    fn fmt<W: fmt::Write>(&self, f: &mut fmt::Formatter<W>) -> fmt::Result {
+        let low = self.low;
+        let high = self.high;
+        write!(f, "{low}..{high}")
     }
 }

@@ -4,6 +4,7 @@ use Rattle.std.proofs.lemmas.List.{get_or_append_left, get_or-map, get_or-take, 
 use Rattle.std.proofs.lemmas.Int.{ints}
 use Rattle.std.specs.Int.{int_min}
 use Rattle.whole.specs.Laws.{Amid}
+use Rattle.tables.specs.Tables.{entries}
 use Rattle.boxes.specs.Boxes.{Ends, In, nought}
 use Rattle.boxes.specs.Views.{ends_of, sides_of}
 use Rattle.boxes.specs.declared.region.Region.{Region}
@@ -129,7 +130,7 @@ module _ (k : Kind) (L : Lawful k) (program : List Instruction) (box : List Ends
 -- the sides of a region are in order and within the bound
 pub region_sided : (r : Region) → Sided (sides_of r)
 region_sided r n h =
-    let xs = take r.knobs r.sides in
+    let xs = entries r.sides in
     let l : n < length xs = omega (arith, length-map xs ends_of) in
     let x = get_or xs n zero_side in
     rw (get_or-map ends_of xs n zero_side nought l) (record { above = omega (arith, ints, x.above); order = x.order; below = omega (arith, ints, x.below) })

@@ -1,6 +1,7 @@
 -- The turns of an evaluation: one register more, from the rows before it.
-use Rattle.std.proofs.Common.{◌≡◌, ℕ, ◌+◌, ◌<◌, ◌≤◌, ◌≢◌, List, ◌++◌, length, get_or, take, drop, set, Some, None, Option, sym, ap, ◌∙◌, subst, arith, below_more}
+use Rattle.std.proofs.Common.{Result, ltb, arith, ◌≡◌, ℕ, ◌+◌, ◌<◌, ◌≤◌, ◌≢◌, List, ◌++◌, length, get_or, take, drop, set, Some, None, Option, sym, ap, ◌∙◌, subst, arith, below_more, Ok, Err}
 use Rattle.std.proofs.lemmas.List.{get_or-take, take_more_set, drop_all, at_drop_more, drop-set-lt, drop-drop, get_or-set_same, get_or-set_other, length-take-le, take-append-drop}
+use Rattle.tables.specs.Tables.{entries}
 use Rattle.boxes.specs.Boxes.{Ends}
 use Rattle.boxes.specs.Views.{sides_of}
 use Rattle.boxes.specs.declared.region.Region.{Region}
@@ -10,7 +11,9 @@ use Rattle.ranges.specs.declared.row.Row.{Row}
 use Rattle.ranges.specs.Kind.{Kind, Lawful}
 use Rattle.records.specs.declared.instruction.Instruction.{Instruction}
 use Rattle.records.specs.declared.instruction.Instruction.TheVariants.{Knob}
-use Rattle.jobs.specs.Registers.{onward, fill, gives, Before, AllValid, no_row, no_instruction}
+use Rattle.std.proofs.lemmas.Bool.{cond_both, le-ltb, lt-ltb, ltb-false, ltb-true}
+use Rattle.jobs.specs.declared.out_of_bound.OutOfBound.{OutOfBound}
+use Rattle.jobs.specs.Registers.{all_within, onward, fill, gives, Before, AllValid, no_row, no_instruction}
 
 module _ (k : Kind) (L : Lawful k) (box : List Ends) (m n : ℕ) (rows : List Row) (v : AllValid k rows n) where
   -- an earlier row gives its range back
@@ -72,8 +75,28 @@ ends_with q rows before n h e f =
     record { count = sym l; filled = sym (take-append-drop n rows) ∙ (λ t. sym e t ++ f t) }
 
 -- a knob's register: all numbers of its side
-pub knob_gives : (k : Kind) (r : Region) (i : Instruction) (n : ℕ) (d : Side) (x : Row) (qs : List Row) → i ≡ Knob n → n < r.knobs
-    → x ≡ k.side (get_or r.sides n d).low (get_or r.sides n d).high → Some x ≡ gives k (sides_of r) i qs
+pub knob_gives : (k : Kind) (r : Region) (i : Instruction) (n : ℕ) (d : Side) (x : Row) (qs : List Row) → i ≡ Knob n → n < length (entries r.sides)
+    → x ≡ k.side (get_or (entries r.sides) n d).low (get_or (entries r.sides) n d).high → Some x ≡ gives k (sides_of r) i qs
 knob_gives k r i n d x qs e h p =
     let w = side_at r n d h in
     ap Some (p ∙ ap (λ z. k.side z.lo z.hi) (sym w)) ∙ ap (λ z. gives k (sides_of r) z qs) (sym e)
+
+-- what is told by how many registers are within the bound
+pub some_outside : (n all : ℕ) → n < all → all_within n all ≡ Err (record { register = n })
+some_outside n all h = rw (lt-ltb n all h)
+
+pub none_outside : (n all : ℕ) → all ≤ n → all_within n all ≡ Ok tt
+none_outside n all h = rw (le-ltb n all h)
+
+same_register : (e d : OutOfBound) → ◌≡◌ {A = Result (Unit {0}) OutOfBound} (Err e) (Err d) → e.register ≡ d.register
+same_register e d q = let k : e ≡ d = cc in ap (λ x. x.register) k
+
+pub told_outside : (n all : ℕ) (e : OutOfBound) → Err e ≡ all_within n all → (n < all) × (e.register ≡ n)
+told_outside n all e = cond_both (ltb n all) (Err (record { register = n })) (Ok tt) (λ r. Err e ≡ r → (n < all) × (e.register ≡ n))
+    (λ t q. (ltb-true n all t, same_register e (record { register = n }) q))
+    (λ t q. let z : ◌≡◌ {A = ℕ} 0 1 = cc in absurd (omega arith))
+
+pub told_all : (n all : ℕ) → Ok tt ≡ all_within n all → all ≤ n
+told_all n all = cond_both (ltb n all) (Err (record { register = n })) (Ok tt) (λ r. Ok tt ≡ r → all ≤ n)
+    (λ t q. let z : ◌≡◌ {A = ℕ} 0 1 = cc in absurd (omega arith))
+    (λ t q. ltb-false n all t)

@@ -1,10 +1,8 @@
 -- What the rule of a program says of each of its instructions.
-use Rattle.std.proofs.Common.{◌≡◌, ℕ, ◌+◌, ◌<◌, true, ◌&&◌, ltb, List, length, get_or, take, subst, arith}
-use Rattle.std.proofs.lemmas.List.{get_or-take, length-take-le}
+use Rattle.std.proofs.Common.{◌≡◌, ℕ, ◌+◌, ◌<◌, true, ◌&&◌, ltb, List, length, get_or, subst, arith}
 use Rattle.std.proofs.lemmas.Bool.{and_parts, ltb-true}
 use Rattle.boxes.specs.declared.region.Region.{Region}
 use Rattle.boxes.specs.Views.{sides_of}
-use Rattle.boxes.proofs.Listed.{knobs_long}
 use Rattle.records.specs.declared.fields.Fields.{Fields}
 use Rattle.records.specs.declared.instruction.Instruction.{Instruction}
 use Rattle.records.specs.declared.instruction.Instruction.TheVariants.{Const, Knob, Add, Sub, Mul, Sqr, Min, Shr}
@@ -31,20 +29,6 @@ wired n program e k h =
     let q : 0 + k ≡ k = omega arith in
     before n k (get_or program k no_instruction) (subst (λ j. good_instruction n j (get_or program k no_instruction) ≡ true) q (every_at (good_instruction n) 0 program no_instruction e k h))
 
--- the program of a job is as long as its count says, and its instructions are those of the table
-pub program_long : (f : Fields) → length (program_of f) ≡ f.registers
-program_long f = length-take-le f.registers f.program f.room
-
-pub program_wired : (f : Fields) (n k : ℕ) → n ≡ f.start.knobs → k < f.registers → Before n k (get_or f.program k no_instruction)
-program_wired f n k q h =
-    let l = program_long f in
-    let w = wired f.start.knobs (program_of f) f.programmed k (omega arith) in
-    rw (q, ← get_or-take f.registers f.program k no_instruction h) w
-
--- so are its targets
-pub targets_long : (f : Fields) → length (take f.goals f.targets) ≡ f.goals
-targets_long f = length-take-le f.goals f.targets f.space
-
 -- over a region with the job's knobs, its program names only what there is
-pub region_wired : (f : Fields) (r : Region) → r.knobs ≡ f.start.knobs → Wired (length (sides_of r)) (program_of f)
-region_wired f r q = rw (knobs_long r, q) (wired f.start.knobs (program_of f) f.programmed)
+pub region_wired : (f : Fields) (r : Region) → length (sides_of r) ≡ length (sides_of f.start) → Wired (length (sides_of r)) (program_of f)
+region_wired f r q = rw q (wired (length (sides_of f.start)) (program_of f) f.programmed)

@@ -1,6 +1,7 @@
 -- The registers of a program: their values at a setting, and their rows over a box by a kind of range.
-use Rattle.std.specs.Prelude.{ℕ, ◌<◌, List, [], ◌∷◌, ◌++◌, length, get_or, take, ℤ, pos, ◌+ℤ◌, ◌-ℤ◌, ◌*ℤ◌, Some, None, Option, slice_index_or}
+use Rattle.std.specs.Prelude.{ℕ, ◌<◌, List, [], ◌∷◌, ◌++◌, length, get_or, ℤ, pos, ◌+ℤ◌, ◌-ℤ◌, ◌*ℤ◌, Some, None, Ok, Err, Option, Result, cond, nat_lt, slice_index_or}
 use Rattle.std.specs.Int.{int_min}
+use Rattle.tables.specs.Tables.{entries}
 use Rattle.boxes.specs.Boxes.{Ends, nought}
 use Rattle.ranges.specs.declared.row.Row.{Row}
 use Rattle.ranges.specs.Bounds.{point}
@@ -10,10 +11,11 @@ use Rattle.ranges.specs.Plains.{row_of}
 use Rattle.records.specs.declared.fields.Fields.{Fields}
 use Rattle.records.specs.declared.instruction.Instruction.{Instruction}
 use Rattle.records.specs.declared.instruction.Instruction.TheVariants.{Const, Knob, Add, Sub, Mul, Sqr, Min, Shr}
+use Rattle.jobs.specs.declared.out_of_bound.OutOfBound.{OutOfBound}
 
 -- the instructions of a job
 abbrev pub program_of : Fields → List Instruction
-program_of f = take f.registers f.program
+program_of f = entries f.program
 
 -- what is done with an answer: with none, xs is all; with one, it goes on behind it
 abbrev pub onward : {A : Type 0} → List A → (List A → List A) → Option A → List A
@@ -58,6 +60,10 @@ gives k box (Shr a b) qs = k.shift b (slice_index_or qs a no_row)
 -- the rows of the registers over a box, up to the first that is too large
 abbrev pub registers : Kind → List Instruction → List Ends → List Row
 registers k program box = fill (gives k box) program []
+
+-- n registers are within the bound of all that there are: every one, or register n is the first that is not
+abbrev pub all_within : ℕ → ℕ → Result (Unit {0}) OutOfBound
+all_within n all = cond (nat_lt n all) (Err (record { register = n })) (Ok tt)
 
 -- the plain answer of one instruction over a box, by the ends of the rows before it
 abbrev pub expected : List Ends → Instruction → List Row → Ends

@@ -10,5 +10,39 @@ use records::fields::Fields;
 #[derive(Clone, Copy)]
 pub struct Job {
     pub fields: Fields,
-    ghost bounded: { length (registers plain_kind (program_of fields) (sides_of fields.start)) ≡ fields.registers },
+    ghost bounded: { length (registers plain_kind (program_of fields) (sides_of fields.start)) ≡ length (program_of fields) },
+}
+
+impl Job {
+    ghost use Rattle.boxes.specs.Boxes.{In, Numbered, count};
+    ghost use Rattle.jobs.specs.Reading.{content_of};
+
+    /// How many knobs the job has.
+    pub fn knobs(&self) -> usize
+        ensures { result ≡ length (content_of self.now).sides }
+    {
+        self.fields.start.knobs()
+    }
+
+    /// How many instructions the job has.
+    pub fn instructions(&self) -> usize
+        ensures { result ≡ length (content_of self.now).program }
+    {
+        self.fields.program.len()
+    }
+
+    /// How many targets the job has.
+    pub fn targets(&self) -> usize
+        ensures { result ≡ length (content_of self.now).targets }
+    {
+        self.fields.targets.len()
+    }
+
+    /// How many settings the start box has.
+    pub fn settings(&self) -> u64
+        ensures value { result ≡ count (content_of self.now).sides }
+        ensures settings { Numbered result (In (content_of self.now).sides) }
+    {
+        self.fields.start.count()
+    }
 }

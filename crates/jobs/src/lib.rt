@@ -13,8 +13,8 @@
 //! What the targets say of a box, and everything that sorts boxes, is left to the crates above.
 #![tactic(auto)]
 
-mod facts;
 pub mod job;
 pub mod laws;
+pub mod out_of_bound;
 mod reading;
 pub mod registers;

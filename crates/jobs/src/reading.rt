@@ -21,15 +21,10 @@ impl Job {
         ensures bounded { IfOk result (λ j. RegistersBounded (content_of j)) }
     {
         let fields = Fields::read(bytes)?;
-        let mut rows = [Row {
-            low: 0,
-            high: 0,
-            step: 0,
-        }; 64];
-        let filled = evaluate::<Plain>(&fields, &fields.start, &mut rows);
-        if filled < fields.registers {
-            return Err(Refusal::new(Reason::TooLarge, filled));
+        let mut rows = [Row::default(); 64];
+        match evaluate::<Plain>(&fields, &fields.start, &mut rows) {
+            Ok(()) => Ok(Job { fields }),
+            Err(e) => Err(Refusal::new(Reason::TooLarge, e.register)),
         }
-        Ok(Job { fields })
     }
 }

@@ -2,8 +2,9 @@ ghost use Rattle.std.specs.Prelude.{◌≡◌, ◌<◌, ◌≤◌, ◌++◌, len
 ghost use Rattle.boxes.specs.Views.{sides_of};
 ghost use Rattle.ranges.specs.Kind.{rowed};
 ghost use Rattle.jobs.specs.Meaning.{RowsHold};
-ghost use Rattle.jobs.specs.Registers.{AllValid, Before, gives, no_row, program_of, registers};
+ghost use Rattle.jobs.specs.Registers.{AllValid, Before, all_within, gives, no_row, program_of, registers};
 
+use crate::out_of_bound::OutOfBound;
 use boxes::region::Region;
 use ranges::range::Range;
 use ranges::row::Row;
@@ -26,13 +27,13 @@ fn evaluate_one<R: Range>(
     rows: &[Row],
 ) -> Option<R>
     requires room { k ≤ length rows.now }
-    requires wired { Before region.now.knobs k instruction }
+    requires wired { Before (length (sides_of region.now)) k instruction }
     requires valid { AllValid R.Range.kind rows.now k }
     ensures { rowed R.Range.row result ≡ gives R.Range.kind (sides_of region.now) instruction (take k rows.now) }
 {
     match instruction {
         Instruction::Const(c) => R::constant(c),
-        Instruction::Knob(n) => Some(R::side(region.sides[n as usize])),
+        Instruction::Knob(n) => Some(R::side(region.sides()[n as usize])),
         Instruction::Add(a, b) => operand::<R>(rows, a).add(&operand::<R>(rows, b)),
         Instruction::Sub(a, b) => operand::<R>(rows, a).sub(&operand::<R>(rows, b)),
         Instruction::Mul(a, b) => operand::<R>(rows, a).mul(&operand::<R>(rows, b)),
@@ -42,21 +43,24 @@ fn evaluate_one<R: Range>(
     }
 }
 
-/// The rows of all registers of a job over a box, by any kind of range, written to the first rows;
-/// and how many there are before one is too large. Rows past these stay.
-pub fn evaluate<R: Range>(fields: &Fields, region: &Region, rows: &mut [Row]) -> usize
-    requires knobs { region.now.knobs ≡ fields.now.start.knobs }
-    requires room { fields.now.registers ≤ length rows.old }
-    ensures count { result ≡ length (registers R.Range.kind (program_of fields.now) (sides_of region.now)) }
-    ensures bound { result ≤ fields.now.registers }
-    ensures filled { rows.new ≡ registers R.Range.kind (program_of fields.now) (sides_of region.now) ++ drop result rows.old }
-    ensures holds { RowsHold R.Range.kind (program_of fields.now) (sides_of region.now) result rows.new }
+/// The rows of all registers of a job over a box, by any kind of range, written to the first rows,
+/// up to the first register that is too large. Rows past these stay.
+pub fn evaluate<R: Range>(
+    fields: &Fields,
+    region: &Region,
+    rows: &mut [Row],
+) -> Result<(), OutOfBound>
+    requires knobs { length (sides_of region.now) ≡ length (sides_of fields.now.start) }
+    requires room { length (program_of fields.now) ≤ length rows.old }
+    ensures told { result ≡ all_within (length (registers R.Range.kind (program_of fields.now) (sides_of region.now))) (length (program_of fields.now)) }
+    ensures filled { rows.new ≡ registers R.Range.kind (program_of fields.now) (sides_of region.now) ++ drop (length (registers R.Range.kind (program_of fields.now) (sides_of region.now))) rows.old }
+    ensures holds { RowsHold R.Range.kind (program_of fields.now) (sides_of region.now) (length (registers R.Range.kind (program_of fields.now) (sides_of region.now))) rows.new }
 {
-    for k in 0..fields.registers {
-        match evaluate_one::<R>(fields.program[k], k, region, rows) {
-            Some(r) => rows[k] = r.to_row(),
-            None => return k,
-        }
+    for (k, &instruction) in fields.program.as_slice().iter().enumerate() {
+        let Some(range) = evaluate_one::<R>(instruction, k, region, rows) else {
+            return Err(OutOfBound { register: k });
+        };
+        rows[k] = range.to_row();
     }
-    fields.registers
+    Ok(())
 }

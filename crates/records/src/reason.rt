@@ -1,5 +1,8 @@
-ghost use Rattle.std.specs.Prelude.{◌≡◌};
-ghost use Rattle.records.specs.Reasons.{number};
+ghost use Rattle.std.specs.Prelude.{◌≡◌, Some};
+ghost use Rattle.records.specs.Reasons.{number, refused};
+
+use std::error::Error;
+use std::fmt;
 
 /// Why a job is refused.
 #[derive(Clone, Copy, PartialEq, Eq, Debug)]
@@ -34,12 +37,12 @@ impl Refusal {
     }
 }
 
-impl Reason {
-    /// The reason's number.
-    pub fn number(&self) -> u32
-        ensures { result ≡ number self.now }
-    {
-        match *self {
+/// The reason's number.
+impl From<Reason> for u32 {
+    ghost from_gives = { λ reason n. n ≡ number reason };
+
+    fn from(reason: Reason) -> u32 {
+        match reason {
             Reason::BadLength => 1,
             Reason::BadVersion => 2,
             Reason::BadShape => 3,
@@ -49,3 +52,15 @@ impl Reason {
         }
     }
 }
+
+impl fmt::Display for Refusal {
+    ghost output = { λ refusal. Some (refused refusal) };
+
+    fn fmt<W: fmt::Write>(&self, f: &mut fmt::Formatter<W>) -> fmt::Result {
+        let number = u32::from(self.reason);
+        let place = self.place;
+        write!(f, "refused {number} {place}")
+    }
+}
+
+impl Error for Refusal {}
