@@ -1,16 +1,15 @@
 -- The targets of a job, and counts of them.
 use Rattle.std.proofs.Common.{◌≡◌, ℕ, ◌+◌, ◌^◌, ◌<◌, ◌≤◌, Bool, true, false, cond, ltb, List, length, get_or, take, pos, neg_ℤ, count_by, sym, refl, ap, ◌∙◌, arith, w32, SFits}
 use mir.Val.{bool_byte}
-use Rattle.std.proofs.lemmas.List.{get_or-take, length-take-le}
 use Rattle.std.proofs.lemmas.Int.{ints}
 use Rattle.std.proofs.lemmas.List.Sums.{sum_by_more}
 use Rattle.std.proofs.lemmas.Bool.{and_parts, ltb-true}
+use Rattle.tables.specs.Tables.{entries}
 use Rattle.boxes.proofs.Goods.{between_in}
 use Rattle.records.specs.declared.fields.Fields.{Fields}
 use Rattle.records.specs.declared.target.Target.{Target}
 use Rattle.records.specs.Rules.{bounded, good_target, no_target}
 use Rattle.records.proofs.Runs.{every_at}
-use Rattle.jobs.proofs.Wiring.{targets_long}
 
 -- a target names a register that there is, and its ends fit 32 bits
 pub record Aimed (registers : ℕ) (t : Target) : Type 0 where
@@ -26,11 +25,8 @@ aimed_by registers t e =
     let b = between_in t.low t.high (pos (2 ^ 30)) q.1 in
     record { there = ltb-true _ _ p.0; low = omega (arith, ints); high = omega (arith, ints) }
 
-pub aimed : (f : Fields) (n : ℕ) → n < f.goals → Aimed f.registers (get_or f.targets n no_target)
-aimed f n h =
-    let l = targets_long f in
-    let g = every_at (λ _ x. good_target f.registers x) 0 (take f.goals f.targets) no_target f.aimed n (omega arith) in
-    aimed_by f.registers _ (rw (← get_or-take f.goals f.targets n no_target h) g)
+pub aimed : (f : Fields) (n : ℕ) → n < length (entries f.targets) → Aimed (length (entries f.program)) (get_or (entries f.targets) n no_target)
+aimed f n h = aimed_by (length (entries f.program)) _ (every_at (λ _ x. good_target (length (entries f.program)) x) 0 (entries f.targets) no_target f.aimed n h)
 
 bit : (b : Bool) → bool_byte b ≡ cond b 1 0
 bit true = refl
@@ -45,14 +41,12 @@ pub record Counted (p : Target → Bool) (xs : List Target) (n m : ℕ) : Type 0
   pub is : m ≡ count_by p (take n xs)
   pub few : m ≤ n
 
-pub counted_more : (p : Target → Bool) (xs : List Target) (goals n m v : ℕ) (b : Bool) → n < goals → goals ≤ length xs → m ≡ count_by p (take n (take goals xs)) → m ≤ n →
-    v ≡ bool_byte b → b ≡ p (get_or xs n no_target) → Counted p (take goals xs) (n + 1) (m + v)
-counted_more p xs goals n m v b h g e u q r =
-    let l = length-take-le goals xs g in
-    let d : p (get_or xs n no_target) ≡ p (get_or (take goals xs) n no_target) = ap p (sym (get_or-take goals xs n no_target h)) in
-    let w : v ≡ cond (p (get_or (take goals xs) n no_target)) 1 0 = q ∙ bit b ∙ ap (λ t. cond t 1 0) (r ∙ d) in
+pub counted_more : (p : Target → Bool) (xs : List Target) (n m v : ℕ) (b : Bool) → n < length xs → m ≡ count_by p (take n xs) → m ≤ n →
+    v ≡ bool_byte b → b ≡ p (get_or xs n no_target) → Counted p xs (n + 1) (m + v)
+counted_more p xs n m v b h e u q r =
+    let w : v ≡ cond (p (get_or xs n no_target)) 1 0 = q ∙ bit b ∙ ap (λ t. cond t 1 0) r in
     let k = few b in
     record {
-      is = (λ i. e i + w i) ∙ sym (sum_by_more (λ t. cond (p t) 1 0) (take goals xs) n no_target (omega arith));
+      is = (λ i. e i + w i) ∙ sym (sum_by_more (λ t. cond (p t) 1 0) xs n no_target h);
       few = omega arith;
     }

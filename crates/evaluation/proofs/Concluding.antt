@@ -1,6 +1,6 @@
 -- What is counted over the rows in scratch memory is what the targets of the job say of the box.
 use Rattle.std.proofs.Common.{◌≡◌, ℕ, ◌<◌, Bool, List, ◌++◌, length, get_or, ℤ, count_by, ap, ◌∙◌, arith}
-use Rattle.std.proofs.lemmas.List.{get_or_append_left, get_or-take}
+use Rattle.std.proofs.lemmas.List.{get_or_append_left}
 use Rattle.boxes.specs.Views.{sides_of}
 use Rattle.boxes.specs.declared.region.Region.{Region}
 use Rattle.boxes.proofs.Nesting.{Nested}
@@ -11,7 +11,6 @@ use Rattle.jobs.specs.declared.job.Job.{Job}
 use Rattle.jobs.specs.Reading.{content_of}
 use Rattle.jobs.specs.Registers.{no_row, program_of, registers}
 use Rattle.jobs.proofs.Holding.{reg_valid, region_sided}
-use Rattle.jobs.proofs.Wiring.{program_long, targets_long}
 use Rattle.evaluation.specs.Judging.{Truth, judged, said_by}
 use Rattle.evaluation.proofs.Aiming.{aimed}
 use Rattle.evaluation.proofs.Tallies.{count_same}
@@ -20,11 +19,7 @@ use Rattle.evaluation.proofs.Working.{all_here, wired_here}
 
 module _ (k : Kind) (L : Lawful k) (j : Job) (r : Region) (n : Nested (sides_of r) (sides_of j.fields.start)) where
   aim : (i : ℕ) → i < length (content_of j).targets → (get_or (content_of j).targets i no_target).register < length (program_of j.fields)
-  aim i h =
-      let l = targets_long j.fields in
-      let m = program_long j.fields in
-      let a = (aimed j.fields i (omega arith)).there in
-      rw (get_or-take j.fields.goals j.fields.targets i no_target (omega arith)) (omega arith)
+  aim i h = (aimed j.fields i h).there
 
   -- what the targets say is true of the settings of the box
   pub true_here : Truth (content_of j) (sides_of r) (judged k (content_of j) (sides_of r))

@@ -5,7 +5,6 @@ use Rattle.std.proofs.lemmas.Bool.{cond_both, le-ltb, ltb-false}
 use Rattle.boxes.specs.Boxes.{Ends, nested}
 use Rattle.boxes.specs.Views.{sides_of}
 use Rattle.boxes.specs.declared.region.Region.{Region}
-use Rattle.boxes.proofs.Listed.{knobs_long}
 use Rattle.boxes.proofs.Nesting.{Nested}
 use Rattle.ranges.specs.declared.row.Row.{Row}
 use Rattle.ranges.specs.Kind.{Holds, Kind, Lawful}
@@ -14,7 +13,7 @@ use Rattle.jobs.specs.declared.job.Job.{Job}
 use Rattle.jobs.specs.Reading.{content_of}
 use Rattle.jobs.specs.Registers.{Wired, no_row, program_of, registers}
 use Rattle.jobs.proofs.Holding.{region_sided, rows_hold}
-use Rattle.jobs.proofs.Wiring.{program_long, region_wired}
+use Rattle.jobs.proofs.Wiring.{region_wired}
 use Rattle.evaluation.specs.declared.unfit.Unfit.{Unfit}
 use Rattle.evaluation.specs.declared.unfit.Unfit.TheVariants.{Scratch, Elsewhere}
 use Rattle.evaluation.specs.Laws.{Evaluated, Refused}
@@ -23,23 +22,13 @@ use Rattle.evaluation.proofs.Growing.{all_registers}
 use Rattle.evaluation.proofs.Single.{holds_only}
 
 module _ (k : Kind) (L : Lawful k) (j : Job) (r : Region) (n : Nested (sides_of r) (sides_of j.fields.start)) where
-  -- the box has the job's knobs
-  pub same_knobs : r.knobs ≡ j.fields.start.knobs
-  same_knobs =
-      let p = knobs_long r in
-      let q = knobs_long j.fields.start in
-      let e = n.knobs in
-      omega arith
-
   pub wired_here : Wired (length (sides_of r)) (program_of j.fields)
-  wired_here = region_wired j.fields r same_knobs
+  wired_here = region_wired j.fields r n.knobs
 
   -- every register has its row
   pub all_here : length (registers k (program_of j.fields) (sides_of r)) ≡ length (program_of j.fields)
   all_here =
-      let b = j.bounded in
-      let l = program_long j.fields in
-      all_registers k L (program_of j.fields) (sides_of r) (sides_of j.fields.start) (region_sided r) (region_sided j.fields.start) wired_here n (omega arith)
+      all_registers k L (program_of j.fields) (sides_of r) (sides_of j.fields.start) (region_sided r) (region_sided j.fields.start) wired_here n j.bounded
 
   pub evaluated : (rows rest : List Row) → rows ≡ registers k (program_of j.fields) (sides_of r) ++ rest → Evaluated k (content_of j) (sides_of r) rows
   evaluated rows rest e =

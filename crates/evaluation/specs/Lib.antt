@@ -1,3 +1,4 @@
 pub mod Scratch
 pub mod Laws
 pub mod Judging
+pub mod Words

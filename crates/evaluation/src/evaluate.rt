@@ -22,6 +22,8 @@ pub fn evaluate<R: Range>(job: &Job, region: &Region, rows: &mut [Row]) -> Resul
     if !region.inside(&job.fields.start) {
         return Err(Unfit::Elsewhere);
     }
-    registers::evaluate::<R>(&job.fields, region, rows);
-    Ok(())
+    match registers::evaluate::<R>(&job.fields, region, rows) {
+        Ok(()) => Ok(()),
+        Err(_) => unreachable!(),
+    }
 }

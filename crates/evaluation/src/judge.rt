@@ -14,13 +14,12 @@ use ranges::row::Row;
 
 /// How many targets are within and how many apart, by the rows of the registers.
 fn count<R: Range>(job: &Job, rows: &[Row]) -> Counts
-    requires { job.now.fields.registers ≤ length rows.now }
+    requires { length (content_of job.now).program ≤ length rows.now }
     ensures within { result.within ≡ count_by (target_within R.Range.kind (taken R.Range.kind rows.now)) (content_of job.now).targets }
     ensures apart { result.apart ≡ count_by (target_apart R.Range.kind (taken R.Range.kind rows.now)) (content_of job.now).targets }
 {
     let (mut within, mut apart) = (0, 0);
-    for n in 0..job.fields.goals {
-        let target = job.fields.targets[n];
+    for target in job.fields.targets.as_slice() {
         let range = R::from_row(rows[target.register as usize]);
         within += usize::from(range.within(target.low, target.high));
         apart += usize::from(range.apart(target.low, target.high));
@@ -58,13 +57,9 @@ pub fn judge_start<R: Range>(job: &Job) -> Says
     ensures value { result ≡ judged R.Range.kind (content_of job.now) (content_of job.now).sides }
     ensures truth { Truth (content_of job.now) (content_of job.now).sides result }
 {
-    let mut rows = [Row {
-        low: 0,
-        high: 0,
-        step: 0,
-    }; 64];
+    let mut rows = [Row::default(); 64];
     match judge::<R>(job, &job.fields.start, &mut rows) {
         Ok(says) => says,
-        Err(_) => unreachable(),
+        Err(_) => unreachable!(),
     }
 }

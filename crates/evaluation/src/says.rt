@@ -1,3 +1,8 @@
+ghost use Rattle.std.specs.Prelude.{Some};
+ghost use Rattle.evaluation.specs.Words.{word};
+
+use std::fmt;
+
 /// What the targets of a job say of a box.
 #[derive(Clone, Copy, PartialEq, Eq, Debug)]
 pub enum Says {
@@ -9,8 +14,20 @@ pub enum Says {
     Open,
 }
 
+impl fmt::Display for Says {
+    ghost output = { λ says. Some (word says) };
+
+    fn fmt<W: fmt::Write>(&self, f: &mut fmt::Formatter<W>) -> fmt::Result {
+        f.write_str(match self {
+            Says::Within => "within",
+            Says::Apart => "apart",
+            Says::Open => "open",
+        })
+    }
+}
+
 /// How many targets of a job are within, and how many apart, over a box.
-#[derive(Clone, Copy)]
+#[derive(Clone, Copy, PartialEq, Eq, Debug)]
 pub struct Counts {
     pub within: usize,
     pub apart: usize,

@@ -3,18 +3,27 @@ use Rattle.boxes.specs.Views.{sides_of}
 use Rattle.boxes.proofs.Nesting.{nested_in}
 use Rattle.jobs.specs.Reading.{content_of}
 use Rattle.jobs.specs.Registers.{program_of, registers}
-use Rattle.jobs.proofs.Wiring.{program_long}
+use Rattle.jobs.proofs.Turns.{told_outside}
 use Rattle.evaluation.specs.Scratch.{fitting, scratch, worked}
-use Rattle.evaluation.proofs.Working.{all_here, evaluated, fit_here, same_knobs}
+use Rattle.evaluation.proofs.Working.{all_here, evaluated, fit_here}
 use Rattle.evaluation.proofs.evaluate.evaluate.Goals as goal
 
 pub evaluate-requires : goal.evaluate-requires
 evaluate-requires g c =
     let j = c.args.job.now in
     let r = c.args.region.now in
-    let l = program_long j.fields in
     let n = nested_in (sides_of r) (sides_of j.fields.start) (sym c.if-not-inside.ensures.value) in
-    record { knobs = same_knobs g.R.Range.kind g.met.R.Range.lawful j r n; room = omega arith }
+    record { knobs = n.knobs; room = omega arith }
+
+-- every register is within the bound there
+pub unreachable-requires : goal.unreachable-requires
+unreachable-requires g c =
+    let j = c.args.job.now in
+    let r = c.args.region.now in
+    let n = nested_in (sides_of r) (sides_of j.fields.start) (sym c.if-not-inside.ensures.value) in
+    let all = all_here g.R.Range.kind g.met.R.Range.lawful j r n in
+    let out = told_outside _ _ c.in-Err.field-0 c.in-Err.ensures.told in
+    omega (arith, out.0)
 
 pub returns : goal.returns
 returns g c =
@@ -26,7 +35,7 @@ returns g c =
     let e = sym c.if-not-inside.ensures.value in
     let n = nested_in (sides_of r) (sides_of j.fields.start) e in
     let u = fit_here (content_of j) (sides_of r) (length rows) (omega arith) e in
-    let a = c.evaluate.ensures.count ∙ all_here k L j r n in
+    let a = all_here k L j r n in
     let f : c.evaluate.new.rows ≡ worked k (content_of j) (sides_of r) rows = c.evaluate.ensures.filled ∙ ap (λ m. registers k (program_of j.fields) (sides_of r) ++ drop m rows) a in
     record {
       told = ap (λ o. fitting o tt) (sym u);

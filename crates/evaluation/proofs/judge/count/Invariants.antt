@@ -1,15 +1,15 @@
-use Rattle.std.proofs.Common.{◌≡◌, ℕ, ◌≤◌, get_or, take, count_by}
-use Rattle.ranges.specs.declared.row.Row.{Row}
-use Rattle.jobs.specs.Registers.{no_row}
-use Rattle.evaluation.specs.Judging.{target_apart, target_within}
+use Rattle.std.proofs.Common.{◌≡◌, ◌≤◌, take, count_by}
+use Rattle.evaluation.specs.Judging.{taken, target_apart, target_within}
 use Rattle.evaluation.proofs.judge.count.Given as goal
 
--- the first n targets are counted
-abbrev pub invariant-loop-n : goal.invariant-loop-n
-invariant-loop-n g l =
+-- the targets so far are counted
+abbrev pub invariant-loop-target : goal.invariant-loop-target
+invariant-loop-target g l =
     let k = g.R.Range.kind in
-    let row : ℕ → Row = λ n. k.fixed (get_or l.rows n no_row) in
-    (l.within ≡ count_by (target_within k row) (take l.n (take l.job.fields.goals l.job.fields.targets)))
-    × (l.apart ≡ count_by (target_apart k row) (take l.n (take l.job.fields.goals l.job.fields.targets)))
-    × (l.within ≤ l.n)
-    × (l.apart ≤ l.n)
+    let counted = take l.target-index l.target-items in
+    record {
+      within : l.within ≡ count_by (target_within k (taken k l.rows)) counted;
+      apart : l.apart ≡ count_by (target_apart k (taken k l.rows)) counted;
+      few_within : l.within ≤ l.target-index;
+      few_apart : l.apart ≤ l.target-index;
+    }
