@@ -1,6 +1,8 @@
 -- What a lawful cutter's answer says of the box that it was lent.
 use Rattle.std.proofs.Common.{◌≡◌, Bool, true, false, List, length, get_or, ℤ, is_some, Some, None, Option, unwrap_or, sym, ap, ◌∙◌, arith}
 use Rattle.std.proofs.lemmas.Bool.{false≢true, true≢false}
+use Rattle.tables.specs.Tables.{entries}
+use Rattle.tables.proofs.Entries.{entries_few}
 use Rattle.boxes.specs.Boxes.{Ends, In}
 use Rattle.boxes.specs.Views.{sides_of}
 use Rattle.boxes.specs.declared.region.Region.{Region}
@@ -19,12 +21,12 @@ use Rattle.cutters.specs.Lawfulness.{rows_lawful}
 pub region_proper : (r : Region) → Proper (sides_of r)
 region_proper r =
     let k = knobs_long r in
-    let s = r.some in
-    let f = r.few in
+    let some = r.some in
+    let few = entries_few r.sides in
     record {
       some = omega arith;
       few = omega arith;
-      sides = λ n h. rw (side_at r n zero_side (omega arith)) (side_good (get_or r.sides n zero_side));
+      sides = λ n h. rw (side_at r n zero_side (omega arith)) (side_good (get_or (entries r.sides) n zero_side));
     }
 
 safe_by : (c : Content) (box : List Ends) (o : Option (List Ends)) → LeftIn box o → ((setting : List ℤ) → In box setting → MayLock c setting → StillIn setting o) → Safe c box (is_some o) (unwrap_or o box)

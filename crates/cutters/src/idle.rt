@@ -8,7 +8,7 @@ use ranges::range::Range;
 use ranges::row::Row;
 
 /// The cutter that leaves every box as it is.
-#[derive(Clone, Copy)]
+#[derive(Clone, Copy, PartialEq, Eq, Debug)]
 pub struct Idle;
 
 impl<R: Range> Cutter<R> for Idle {

@@ -15,7 +15,7 @@ const MOST: u32 = 16;
 
 /// One cutter again and again, 1 to 16 times; other counts are taken as the nearer of these. It ends
 /// early where nothing is left, or nothing changed.
-#[derive(Clone, Copy)]
+#[derive(Clone, Copy, PartialEq, Eq, Debug)]
 pub struct Repeat<C> {
     pub inner: C,
     pub times: u32,

@@ -8,7 +8,7 @@ use ranges::range::Range;
 use ranges::row::Row;
 
 /// First one cutter, then the other on what the first left.
-#[derive(Clone, Copy)]
+#[derive(Clone, Copy, PartialEq, Eq, Debug)]
 pub struct Seq<A, B> {
     pub first: A,
     pub second: B,

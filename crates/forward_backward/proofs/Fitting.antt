@@ -1,5 +1,5 @@
 -- Forward-backward over scratch that is long enough and a box inside the start box.
-use Rattle.std.proofs.Common.{◌≡◌, ℕ, ◌-◌, List, length, take, None, ap, ◌∙◌, arith}
+use Rattle.std.proofs.Common.{◌≡◌, ℕ, List, length, take, None, ap, ◌∙◌, arith}
 use Rattle.std.proofs.lemmas.List.{take_at}
 use Rattle.std.proofs.lemmas.Bool.{le-ltb}
 use Rattle.boxes.specs.Views.{sides_of}
@@ -24,9 +24,9 @@ module _ (k : Kind) (j : Job) (r : Region) (rows : List Row) (u : hindrance j r 
   cut_is n = let f = fit in rw (le-ltb (length rows) (length (program_of j.fields)) f.room, f.inside)
 
   -- the first rows are those of the registers
-  pub front : Lawful k → (m : ℕ) (after : List Row) → m ≡ length (program_of j.fields) → after ≡ left_in k j r rows → take (m - 0) after ≡ registers k (program_of j.fields) (sides_of r)
+  pub front : Lawful k → (m : ℕ) (after : List Row) → m ≡ length (program_of j.fields) → after ≡ left_in k j r rows → take m after ≡ registers k (program_of j.fields) (sides_of r)
   front L m after e q =
       let n = nested_in (sides_of r) (sides_of j.fields.start) fit.inside in
       let a = all_here k L j r n in
       let w : after ≡ worked k (content_of j) (sides_of r) rows = q ∙ ap (λ o. scratch o k (content_of j) (sides_of r) rows) u in
-      ap (take (m - 0)) w ∙ take_at (registers k (program_of j.fields) (sides_of r)) _ (m - 0) (omega arith)
+      ap (take m) w ∙ take_at (registers k (program_of j.fields) (sides_of r)) _ m (omega arith)

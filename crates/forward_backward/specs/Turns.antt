@@ -1,14 +1,12 @@
 -- What the code's answers say of what is left, and the turns of its loops.
-use Rattle.std.specs.Prelude.{◌≡◌, ℕ, suc, ◌+◌, ◌-◌, ◌<◌, ◌≤◌, List, map, length, get_or, take, drop, Some, None, Option, slice_index_or, slice_set, refl}
+use Rattle.std.specs.Prelude.{◌≡◌, ℕ, suc, ◌+◌, ◌<◌, ◌≤◌, List, length, get_or, drop, Some, None, Option, slice_index_or, refl}
 use native.Mathlib.Omega.{arith}
-use Rattle.std.proofs.Common.{sym, ◌∙◌, length-set}
+use Rattle.std.proofs.Common.{sym, length-set}
 use Rattle.std.proofs.Math.Path.{ap}
-use Rattle.std.proofs.Math.Seq.{take-set-lt}
-use Rattle.std.proofs.lemmas.List.{at_drop_more, drop_all, map-set}
+use Rattle.std.proofs.lemmas.List.{at_drop_more, drop_all}
 use Rattle.boxes.specs.Boxes.{Ends, nought}
-use Rattle.boxes.specs.Views.{ends_of, sides_of}
+use Rattle.boxes.specs.Views.{sides_of}
 use Rattle.boxes.specs.declared.region.Region.{Region}
-use Rattle.boxes.specs.declared.side.Side.{Side}
 use Rattle.ranges.specs.declared.row.Row.{Row}
 use Rattle.ranges.specs.Kind.{Keeper, Kind}
 use Rattle.records.specs.declared.instruction.Instruction.{Instruction}
@@ -103,9 +101,9 @@ module _ (k : Kind) (n : Keeper) where
   turned_long i j s = beside_long s.box _ _ (side_cut_long i _ s.box)
 
   -- one instruction more
-  pub backward_turn : (program : List Instruction) (j : ℕ) (s : State) → 0 < j → backward k n program j s ≡ and_then (turned k n (slice_index_or program (j - 1) no_instruction) (j - 1) s) (backward k n program (j - 1))
+  pub backward_turn : (program : List Instruction) (m j : ℕ) (s : State) → j + 1 ≡ m → backward k n program m s ≡ and_then (turned k n (slice_index_or program j no_instruction) j s) (backward k n program j)
   unfolding backward
-  backward_turn program j s h = let e : j ≡ suc (j - 1) = omega arith in ap (λ m. backward k n program m s) e
+  backward_turn program m j s h = let e : m ≡ suc j = omega arith in ap (λ i. backward k n program i s) e
 
   pub backward_over : (program : List Instruction) (j : ℕ) (s : State) → j ≤ 0 → backward k n program j s ≡ Some s
   unfolding backward
@@ -118,7 +116,3 @@ module _ (k : Kind) (n : Keeper) where
 
   pub aimed_over : (targets : List Target) (i : ℕ) (rows : List Row) → length targets ≤ i → aimed k n (drop i targets) rows ≡ Some rows
   aimed_over targets i rows h = ap (λ ts. aimed k n ts rows) (drop_all i targets h)
-
--- the sides of a region with another one in one place
-pub set_side : (knobs : ℕ) (sides : List Side) (m : ℕ) (s : Side) → m < knobs → map ends_of (take knobs (slice_set sides m s)) ≡ slice_set (map ends_of (take knobs sides)) m (ends_of s)
-set_side knobs sides m s h = ap (map ends_of) (take-set-lt knobs sides m s h) ∙ map-set ends_of (take knobs sides) m s

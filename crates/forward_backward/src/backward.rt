@@ -2,7 +2,7 @@ ghost use Rattle.std.specs.Prelude.{◌≡◌, ◌<◌, length};
 ghost use Rattle.boxes.specs.Views.{sides_of};
 ghost use Rattle.ranges.specs.Kind.{ends};
 ghost use Rattle.jobs.specs.Reading.{content_of};
-ghost use Rattle.jobs.specs.Registers.{Before, program_of};
+ghost use Rattle.jobs.specs.Registers.{Before};
 ghost use Rattle.forward_backward.specs.Operands.{aimed};
 ghost use Rattle.forward_backward.specs.Backward.{KnobOf, backward, box_of, narrowed_box, side_cut, turned};
 ghost use Rattle.forward_backward.specs.Told.{Left, TurnedTo, boxed};
@@ -20,20 +20,17 @@ use records::instruction::Instruction;
 /// The box with the side of an instruction's knob cut to the ends of its register; none where that
 /// side would cross.
 fn cut_side(instruction: Instruction, region: Region, z: Row) -> Option<Region>
-    requires { KnobOf region.knobs instruction }
+    requires { KnobOf (length (sides_of region)) instruction }
     ensures { boxed result ≡ side_cut instruction (ends z) (sides_of region) }
 {
     let Instruction::Knob(m) = instruction else {
         return Some(region);
     };
-    let side = region.sides[m as usize];
+    let side = region.sides()[m as usize];
     let cut = Side::new(side.low.max(z.low), side.high.min(z.high))?;
     let mut sides = region.sides;
-    sides[m as usize] = cut;
-    Some(Region {
-        knobs: region.knobs,
-        sides,
-    })
+    sides.set(m as usize, cut);
+    Some(Region { sides })
 }
 
 /// Takes instruction j backward: narrows its operands, and cuts the side of its knob.
@@ -44,7 +41,7 @@ fn turn<R: Narrowing>(
     rows: &mut [Row],
 ) -> Option<Region>
     requires room { j < length rows.old }
-    requires wired { Before region.knobs j instruction }
+    requires wired { Before (length (sides_of region)) j instruction }
     ensures { TurnedTo (turned R.Range.kind R.Narrowing.keeper instruction j (record { rows = rows.old; box = sides_of region })) result rows.new }
 {
     let z = row_at::<R>(rows, j);
@@ -54,24 +51,25 @@ fn turn<R: Narrowing>(
 
 /// Takes all instructions backward, from the last to the first.
 fn all_backward<R: Narrowing>(job: &Job, region: Region, rows: &mut [Row]) -> Option<Region>
-    requires knobs { region.knobs ≡ job.now.fields.start.knobs }
-    requires room { job.now.fields.registers ≡ length rows.old }
-    ensures { boxed result ≡ box_of (backward R.Range.kind R.Narrowing.keeper (program_of job.now.fields) job.now.fields.registers (record { rows = rows.old; box = sides_of region })) }
+    requires knobs { length (sides_of region) ≡ length (content_of job.now).sides }
+    requires room { length (content_of job.now).program ≡ length rows.old }
+    ensures { boxed result ≡ box_of (backward R.Range.kind R.Narrowing.keeper (content_of job.now).program (length (content_of job.now).program) (record { rows = rows.old; box = sides_of region })) }
 {
     let mut left = region;
-    for j in (0..job.fields.registers).rev() {
-        left = turn::<R>(job.fields.program[j], j, left, rows)?;
+    let mut program = job.fields.program.as_slice();
+    while let Some((&instruction, earlier)) = program.split_last() {
+        left = turn::<R>(instruction, earlier.len(), left, rows)?;
+        program = earlier;
     }
     Some(left)
 }
 
 /// Keeps each target's register within the target.
 fn aim<R: Narrowing>(job: &Job, rows: &mut [Row]) -> Option<()>
-    requires { job.now.fields.registers ≡ length rows.old }
+    requires { length (content_of job.now).program ≡ length rows.old }
     ensures { Left (aimed R.Range.kind R.Narrowing.keeper (content_of job.now).targets rows.old) result rows.new }
 {
-    for n in 0..job.fields.goals {
-        let target = job.fields.targets[n];
+    for target in job.fields.targets.as_slice() {
         let span = Span {
             low: target.low as i64,
             high: target.high as i64,
@@ -87,8 +85,8 @@ pub(crate) fn narrow_box<R: Narrowing>(
     region: Region,
     rows: &mut [Row],
 ) -> Option<Region>
-    requires knobs { region.knobs ≡ job.now.fields.start.knobs }
-    requires room { job.now.fields.registers ≡ length rows.old }
+    requires knobs { length (sides_of region) ≡ length (content_of job.now).sides }
+    requires room { length (content_of job.now).program ≡ length rows.old }
     ensures { boxed result ≡ narrowed_box R.Range.kind R.Narrowing.keeper (content_of job.now) (sides_of region) rows.old }
 {
     aim::<R>(job, rows)?;

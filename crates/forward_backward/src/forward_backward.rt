@@ -11,7 +11,7 @@ use ranges::row::Row;
 
 /// Works out all registers of a job over a box, and narrows them backward from the targets to the
 /// box.
-#[derive(Clone, Copy)]
+#[derive(Clone, Copy, PartialEq, Eq, Debug)]
 pub struct ForwardBackward;
 
 impl<R: Narrowing> Cutter<R> for ForwardBackward {
@@ -23,7 +23,7 @@ impl<R: Narrowing> Cutter<R> for ForwardBackward {
         let Ok(()) = evaluate::<R>(job, region, rows) else {
             return true;
         };
-        match narrow_box::<R>(job, *region, &mut rows[0..job.instructions()]) {
+        match narrow_box::<R>(job, *region, &mut rows[..job.instructions()]) {
             Some(left) => {
                 *region = left;
                 true

@@ -4,7 +4,7 @@ use Rattle.forward_backward.specs.Operands.{aimed}
 use Rattle.forward_backward.proofs.backward.aim.Given as goal
 
 -- the targets that are left give what all of them give
-abbrev pub invariant-loop-n : goal.invariant-loop-n
-invariant-loop-n g l =
+abbrev pub invariant-loop-target : goal.invariant-loop-target
+invariant-loop-target g l =
     let a = aimed g.R.Range.kind g.R.Narrowing.keeper in
-    a (drop l.n (content_of l.job).targets) l.rows ≡ a (content_of l.job).targets l.initial.rows
+    a (drop l.target-index (content_of l.job).targets) l.rows ≡ a (content_of l.job).targets l.initial.rows

@@ -2,9 +2,8 @@ use Rattle.std.proofs.Common.{length, sym, refl, ap, ◌∙◌, arith}
 use Rattle.boxes.specs.Views.{sides_of}
 use Rattle.boxes.proofs.Nesting.{nested_in}
 use Rattle.jobs.specs.Reading.{content_of}
-use Rattle.jobs.proofs.Wiring.{program_long}
 use Rattle.evaluation.specs.Scratch.{hindrance}
-use Rattle.evaluation.proofs.Working.{all_here, answered_none, fit_in, same_knobs}
+use Rattle.evaluation.proofs.Working.{all_here, answered_none, fit_in}
 use Rattle.cutters.proofs.Safety.{left_box, left_nothing}
 use Rattle.forward_backward.specs.Backward.{forward_backward, narrowed_box}
 use Rattle.forward_backward.proofs.Fitting.{cut_is, front}
@@ -20,10 +19,9 @@ narrow_box-requires g c =
     let rows = c.args.rows.now in
     let u = answered_none (hindrance j r rows) _ _ c.in-Ok.ensures.told in
     let n = nested_in (sides_of r) (sides_of j.fields.start) (fit_in (content_of j) (sides_of r) (length rows) u).inside in
-    let p = program_long j.fields in
     let a = all_here k L j r n in
     let f = ap length (front k j r rows u L c.instructions.result c.evaluate.new.rows c.instructions.ensures c.evaluate.ensures.filled) in
-    record { knobs = same_knobs k L j r n; room = omega arith }
+    record { knobs = n.knobs; room = omega arith }
 
 pub returns-in-None : goal.returns-in-None
 returns-in-None g c =
