@@ -1,3 +1,4 @@
 pub mod Registers
 pub mod Meaning
 pub mod Reading
+pub mod Words

@@ -4,6 +4,7 @@ ghost use Rattle.ranges.specs.Plains.{plain_kind};
 ghost use Rattle.jobs.specs.Registers.{program_of, registers};
 
 use records::fields::Fields;
+use std::fmt;
 
 /// A job: fields that keep their rules, and whose registers all have a plain range over the start
 /// box within the bound.
@@ -44,5 +45,24 @@ impl Job {
         ensures settings { Numbered result (In (content_of self.now).sides) }
     {
         self.fields.start.count()
+    }
+}
+
+impl fmt::Display for Job {
+    ghost use Rattle.std.specs.Prelude.{Some};
+    ghost use Rattle.jobs.specs.Reading.{content_of};
+    ghost use Rattle.jobs.specs.Words.{counts_text};
+
+    ghost output = { λ job. Some (counts_text (content_of job)) };
+
+    fn fmt<W: fmt::Write>(&self, f: &mut fmt::Formatter<W>) -> fmt::Result {
+        let knobs = self.knobs();
+        let instructions = self.instructions();
+        let targets = self.targets();
+        let settings = self.settings();
+        write!(
+            f,
+            "knobs {knobs} instructions {instructions} targets {targets} settings {settings}"
+        )
     }
 }

@@ -15,9 +15,9 @@ sides_more : (sides : List Side) (k : ℕ) (d : Side) → k < length sides → s
 sides_more sides k d h = ap sides_text (map_more ends_of sides k d h) ∙ sides_push (map ends_of (take k sides)) (ends_of (get_or sides k d))
 
 -- a text with the first sides behind it, and then with one more
-pub joined : (sides : List Side) (k : ℕ) (d : Side) (start text side after : List ℕ) → k < length sides → text ≡ start ++ sides_text (map ends_of (take k sides)) → side ≡ side_text (ends_of (get_or sides k d)) → after ≡ text ++ side →
-    after ≡ start ++ sides_text (map ends_of (take (k + 1) sides))
-joined sides k d start text side after h p q r =
-    r ∙ (λ i. p i ++ q i)
+pub joined : (sides : List Side) (k : ℕ) (d : Side) (start text after : List ℕ) → k < length sides → d ≡ get_or sides k d → text ≡ start ++ sides_text (map ends_of (take k sides)) → after ≡ text ++ side_text (ends_of d)
+    → after ≡ start ++ sides_text (map ends_of (take (k + 1) sides))
+joined sides k d start text after h e p q =
+    q ∙ (λ i. p i ++ side_text (ends_of (e i)))
     ∙ append_assoc start (sides_text (map ends_of (take k sides))) (side_text (ends_of (get_or sides k d)))
     ∙ ap (λ t. start ++ t) (sym (sides_more sides k d h))

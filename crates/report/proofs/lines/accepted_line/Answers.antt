@@ -1,18 +1,21 @@
--- The text is the job's, by the numbers that its methods give and what its targets say.
-use Rattle.std.proofs.Common.{◌≡◌, ℕ, List, IfOk, string_bytes, ap, ◌∙◌, subst}
+-- The line by what the targets say.
+use Rattle.std.proofs.Common.{List, ℕ, ◌++◌, ◌≡◌, IfOk, string_bytes, codes, subst}
 use Rattle.jobs.specs.Reading.{content_of}
-use Rattle.report.specs.Lines.{accepted, accepted_text, word}
+use Rattle.jobs.specs.Words.{counts_text}
+use Rattle.evaluation.specs.Words.{word}
+use Rattle.evaluation.specs.declared.says.Says.{Says}
+use Rattle.records.specs.Rules.{Content}
+use Rattle.report.specs.Lines.{accepted}
 use Rattle.report.proofs.lines.accepted_line.Goals as goal
+
+abbrev line : Content → Says → Says → List ℕ
+line c p r = codes "accepted " ++ (counts_text c ++ (codes " plain " ++ (word p ++ (codes " raster " ++ word r))))
 
 pub returns : goal.returns
 returns c =
-    let k = c.knobs-knobs.ensures in
-    let n = c.instructions-instructions.ensures in
-    let t = c.targets-targets.ensures in
-    let s = c.settings-settings.ensures.value in
-    let p = c.word-plain.ensures ∙ ap word c.judge_start.ensures.value in
-    let r = c.word-raster.ensures ∙ ap word c.judge_start-2.ensures.value in
-    let text = accepted_text c.knobs-knobs.result c.instructions-instructions.result c.targets-targets.result c.settings-settings.result c.word-plain.result.now c.word-raster.result.now in
-    let h : IfOk c.format.result (λ x. string_bytes x ≡ text) = c.format.ensures.ok in
-    let e : text ≡ accepted (content_of c.args.job.now) = (λ i. accepted_text (k i) (n i) (t i) (s i) (p i) (r i)) in
-    subst (λ (y : List ℕ). IfOk c.format.result (λ x. string_bytes x ≡ y)) e h
+    let j = content_of c.args.job.now in
+    let p = c.judge_start-plain.ensures.value in
+    let r = c.judge_start-raster.ensures.value in
+    let h : IfOk c.format.result (λ t. string_bytes t ≡ line j c.judge_start-plain.result c.judge_start-raster.result) = c.format.ensures.ok in
+    let e : line j c.judge_start-plain.result c.judge_start-raster.result ≡ accepted j = (λ i. line j (p i) (r i)) in
+    subst (λ (y : List ℕ). IfOk c.format.result (λ t. string_bytes t ≡ y)) e h
