@@ -13,7 +13,7 @@ use whole::{greatest, least, product, shift_down};
 pub(crate) const BOUND: i64 = 1 << 30;
 
 /// Two ends, wide enough for the plain answer of any operation.
-#[derive(Clone, Copy)]
+#[derive(Clone, Copy, PartialEq, Eq, Debug)]
 pub struct Span {
     pub low: i64,
     pub high: i64,
@@ -25,6 +25,18 @@ impl Span {
         ensures { result ≡ fit (span_ends self.now) }
     {
         (-BOUND <= self.low) & ((self.low <= self.high) & (self.high <= BOUND))
+    }
+}
+
+/// The ends of a row.
+impl From<Row> for Span {
+    ghost from_gives = { λ row span. span_ends span ≡ ends row };
+
+    fn from(row: Row) -> Span {
+        Span {
+            low: row.low as i64,
+            high: row.high as i64,
+        }
     }
 }
 
@@ -62,14 +74,14 @@ pub fn mul_ends(a: Row, b: Row) -> Span
     }
 }
 
-/// The least square of the numbers from low to high: 0 where they have both signs.
-pub(crate) fn least_square(low: i32, high: i32) -> i64
-    ensures { result ≡ low_square low high }
+/// The least square of the numbers from the low end to the high one: 0 where they have both signs.
+fn least_square(a: Row) -> i64
+    ensures { result ≡ low_square a.low a.high }
 {
-    if low >= 0 {
-        product(low, low)
-    } else if high <= 0 {
-        product(high, high)
+    if a.low >= 0 {
+        product(a.low, a.low)
+    } else if a.high <= 0 {
+        product(a.high, a.high)
     } else {
         0
     }
@@ -80,7 +92,7 @@ pub fn sqr_ends(a: Row) -> Span
     ensures { span_ends result ≡ ends_sqr (ends a) }
 {
     Span {
-        low: least_square(a.low, a.high),
+        low: least_square(a),
         high: product(a.low, a.low).max(product(a.high, a.high)),
     }
 }
