@@ -1,7 +1,7 @@
 ghost use Rattle.std.specs.Prelude.{◌≡◌, ◌%◌, ◌^◌, ◌≤◌, pos, negsuc, ◌-ℤ◌, ◌≤ℤ◌, unsigned_abs};
 
 /// The numbers low, low + 2^power, .. up to high, within the bound.
-#[derive(Clone, Copy)]
+#[derive(Clone, Copy, PartialEq, Eq, Debug)]
 pub struct Raster {
     pub(crate) low: i32,
     pub(crate) high: i32,

@@ -15,15 +15,15 @@ use ranges::row::Row;
 use ranges::spans::{Span, add_ends, min_ends, mul_ends, shr_ends, sqr_ends, sub_ends};
 use whole::product;
 
-/// The held numbers from x to y, if there are any.
-fn cut(r: &Raster, x: i64, y: i64) -> Option<Raster>
-    ensures { rowed raster_row result ≡ raster_kept (raster_row r.now) x y }
+/// The held numbers in the span, if there are any.
+fn cut(r: &Raster, span: Span) -> Option<Raster>
+    ensures { rowed raster_row result ≡ raster_kept (raster_row r.now) span.low span.high }
 {
-    let span = Span {
-        low: (r.low as i64).max(x),
-        high: (r.high as i64).min(y),
+    let kept = Span {
+        low: (r.low as i64).max(span.low),
+        high: (r.high as i64).min(span.high),
     };
-    make_inward(span, r.low as i64, r.power)
+    make_inward(kept, r.low as i64, r.power)
 }
 
 impl Range for Raster {
@@ -89,12 +89,12 @@ impl Range for Raster {
         make(span, self.power.saturating_sub(by.min(30)))
     }
 
-    fn within(&self, low: i32, high: i32) -> bool {
-        (low <= self.low) & (self.high <= high)
+    fn within(&self, span: Span) -> bool {
+        (span.low <= self.low as i64) & (self.high as i64 <= span.high)
     }
 
-    fn apart(&self, low: i32, high: i32) -> bool {
-        cut(self, low as i64, high as i64).is_none()
+    fn apart(&self, span: Span) -> bool {
+        cut(self, span).is_none()
     }
 
     fn to_row(&self) -> Row {
@@ -106,18 +106,11 @@ impl Range for Raster {
     }
 
     fn from_row(r: Row) -> Raster {
-        let span = Span {
-            low: r.low as i64,
-            high: r.high as i64,
-        };
-        match make(span, r.step) {
-            Some(p) => p,
-            None => Raster {
-                low: 0,
-                high: 0,
-                power: LARGEST,
-            },
-        }
+        make(r.into(), r.step).unwrap_or(Raster {
+            low: 0,
+            high: 0,
+            power: LARGEST,
+        })
     }
 }
 
@@ -126,7 +119,7 @@ impl Narrowing for Raster {
 
     ghost keeps = { raster_keeps };
 
-    fn keep(&self, x: i64, y: i64) -> Option<Raster> {
-        cut(self, x, y)
+    fn keep(&self, span: Span) -> Option<Raster> {
+        cut(self, span)
     }
 }
