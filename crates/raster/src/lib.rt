@@ -17,6 +17,7 @@
 
 pub mod laws;
 mod making;
+pub mod power;
 mod powers;
 pub mod raster;
 pub mod raster_range;

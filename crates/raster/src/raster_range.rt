@@ -5,8 +5,9 @@ ghost use Rattle.raster.specs.Lawfulness.{raster_lawful};
 ghost use Rattle.raster.specs.Stepping.{raster_valid};
 ghost use Rattle.raster.specs.Inward.{raster_keeps};
 
-use crate::making::{make, make_inward};
-use crate::powers::{LARGEST, lesser_power, product_power};
+use crate::making::{make, make_inward, make_of};
+use crate::power::Power;
+use crate::powers::{lesser_power, product_power};
 use crate::raster::Raster;
 use boxes::side::Side;
 use ranges::narrowing::Narrowing;
@@ -39,7 +40,11 @@ impl Range for Raster {
         Raster {
             low: side.low,
             high: side.high,
-            power: if side.high <= side.low { LARGEST } else { 0 },
+            power: if side.high <= side.low {
+                Power::LARGEST
+            } else {
+                Power::SMALLEST
+            },
         }
     }
 
@@ -48,7 +53,7 @@ impl Range for Raster {
             low: c as i64,
             high: c as i64,
         };
-        make(span, LARGEST)
+        make(span, Power::LARGEST)
     }
 
     fn low(&self) -> i32 {
@@ -61,12 +66,12 @@ impl Range for Raster {
 
     fn add(&self, other: &Raster) -> Option<Raster> {
         let span = add_ends(self.to_row(), other.to_row());
-        make(span, self.power.min(other.power))
+        make(span, self.power.lesser(other.power))
     }
 
     fn sub(&self, other: &Raster) -> Option<Raster> {
         let span = sub_ends(self.to_row(), other.to_row());
-        make(span, self.power.min(other.power))
+        make(span, self.power.lesser(other.power))
     }
 
     fn mul(&self, other: &Raster) -> Option<Raster> {
@@ -86,7 +91,7 @@ impl Range for Raster {
 
     fn shr(&self, by: u32) -> Option<Raster> {
         let span = shr_ends(self.to_row(), by);
-        make(span, self.power.saturating_sub(by.min(30)))
+        make(span, self.power.lowered(by.min(30)))
     }
 
     fn within(&self, span: Span) -> bool {
@@ -101,15 +106,15 @@ impl Range for Raster {
         Row {
             low: self.low,
             high: self.high,
-            step: self.power,
+            step: self.power.log,
         }
     }
 
     fn from_row(r: Row) -> Raster {
-        make(r.into(), r.step).unwrap_or(Raster {
+        make_of(r).unwrap_or(Raster {
             low: 0,
             high: 0,
-            power: LARGEST,
+            power: Power::LARGEST,
         })
     }
 }
