@@ -2,17 +2,8 @@ use Rattle.std.proofs.Common.{◌≡◌, arith, w32, SFits, rules}
 use Rattle.std.proofs.lemmas.Int.{ints, to_z-of_z}
 use Rattle.whole.specs.Quotients.{floor}
 use Rattle.ranges.specs.Kind.{ends}
-use Rattle.inverses.proofs.Factors.{low_not_zero, high_not_zero}
+use Rattle.inverses.proofs.Factors.{high_not_zero}
 use Rattle.inverses.proofs.quotients.greatest_quotient.Goals as goal
-
-pub divide_down-requires : goal.divide_down-requires
-divide_down-requires c = λ e. low_not_zero (ends c.args.y) c.requires (omega (arith, ints))
-
-pub divide_down-requires-2 : goal.divide_down-requires-2
-divide_down-requires-2 c = λ e. high_not_zero (ends c.args.y) c.requires (omega (arith, ints))
-
-pub divide_down-requires-3 : goal.divide_down-requires-3
-divide_down-requires-3 c = λ e. low_not_zero (ends c.args.y) c.requires (omega (arith, ints))
 
 pub divide_down-requires-4 : goal.divide_down-requires-4
 divide_down-requires-4 c = λ e. high_not_zero (ends c.args.y) c.requires (omega (arith, ints))

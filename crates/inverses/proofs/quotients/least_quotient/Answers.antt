@@ -1,21 +1,8 @@
 use Rattle.std.proofs.Common.{◌≡◌, arith, w32, SFits, rules}
-use Rattle.std.proofs.lemmas.Int.{ints, to_z-of_z}
+use Rattle.std.proofs.lemmas.Int.{to_z-of_z}
 use Rattle.whole.specs.Quotients.{ceiling}
 use Rattle.ranges.specs.Kind.{ends}
-use Rattle.inverses.proofs.Factors.{low_not_zero, high_not_zero}
 use Rattle.inverses.proofs.quotients.least_quotient.Goals as goal
-
-pub divide_up-requires : goal.divide_up-requires
-divide_up-requires c = λ e. low_not_zero (ends c.args.y) c.requires (omega (arith, ints))
-
-pub divide_up-requires-2 : goal.divide_up-requires-2
-divide_up-requires-2 c = λ e. high_not_zero (ends c.args.y) c.requires (omega (arith, ints))
-
-pub divide_up-requires-3 : goal.divide_up-requires-3
-divide_up-requires-3 c = λ e. low_not_zero (ends c.args.y) c.requires (omega (arith, ints))
-
-pub divide_up-requires-4 : goal.divide_up-requires-4
-divide_up-requires-4 c = λ e. high_not_zero (ends c.args.y) c.requires (omega (arith, ints))
 
 pub returns : goal.returns
 returns c =
