@@ -1,5 +1,5 @@
 -- Products, backward: a factor lies between the corner quotients, where the other keeps its sign.
-use Rattle.std.proofs.Common.{◌≡◌, true, false, ◌⊎◌, ℤ, pos, ◌*ℤ◌, ◌≤ℤ◌, ◌<ℤ◌, Some, None, sym, ap, ◌∙◌, inl, inr, arith}
+use Rattle.std.proofs.Common.{◌≡◌, true, false, ◌⊎◌, ℤ, pos, ◌*ℤ◌, ◌≤ℤ◌, ◌<ℤ◌, Some, None, Option, sym, ap, ◌∙◌, inl, inr, arith}
 use Rattle.std.specs.Int.{int_max, int_min}
 use Rattle.std.proofs.Math.IntN.{*ℤ_comm}
 use Rattle.std.proofs.lemmas.Int.{ints, clamps, by_lt_z}
@@ -25,14 +25,14 @@ one_sign e x f p = by_lt_z (pos 0) e.lo inl
 factor_lies : (z y : Ends) (u v : ℤ) → around_zero y ≡ false → Lies y v → Lies z (u *ℤ v) → Lies (quotients z y) u
 factor_lies z y u v f p h = amid_factor u v z.lo z.hi y.lo y.hi h p (one_sign y v f p)
 
-pub factor_inverse : (z y : Ends) → Known (InverseBoth ◌*ℤ◌ z y) (back_factor z y)
+pub factor_inverse : (z y : Ends) (r : Option Ends) → r ≡ back_factor z y → Known (InverseBoth ◌*ℤ◌ z y) r
 unfolding back_factor
-factor_inverse z y = cond_both (around_zero y) None (Some (quotients z y)) (Known (InverseBoth ◌*ℤ◌ z y))
+factor_inverse z y r e = rw e (cond_both (around_zero y) None (Some (quotients z y)) (Known (InverseBoth ◌*ℤ◌ z y))
     (λ t. tt)
     (λ f. record {
       first = λ v p u h. factor_lies z y u v f p h;
       second = λ v p u h. factor_lies z y u v f p (rw (*ℤ_comm u v) h);
-    })
+    }))
 
 pub factor_none : (z y : Ends) → around_zero y ≡ true → None ≡ back_factor z y
 unfolding back_factor

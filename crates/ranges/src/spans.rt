@@ -1,4 +1,4 @@
-//! The plain answer of each operation, by the operands' ends alone. Finer kinds of range start from
+//! The plain answer of each operation, by the operands' ends alone. Every kind of range starts from
 //! it.
 ghost use Rattle.std.specs.Prelude.{◌≡◌};
 ghost use Rattle.ranges.specs.Bounds.{fit};
@@ -10,7 +10,7 @@ use crate::row::Row;
 use whole::{greatest, least, product, shift_down};
 
 /// The bound of all values, on either side of 0.
-pub(crate) const BOUND: i64 = 1 << 30;
+const BOUND: i64 = 1 << 30;
 
 /// Two ends, wide enough for the plain answer of any operation.
 #[derive(Clone, Copy, PartialEq, Eq, Debug)]
