@@ -72,7 +72,7 @@ split_pow t c q h =
 joined : (x a z : ℤ) → x -ℤ a ≡ z → x ≡ a +ℤ z
 joined x a z e = omega (arith, ints)
 
-cancelled : (u v : ℤ) → (u +ℤ v) -ℤ u ≡ v
+pub cancelled : (u v : ℤ) → (u +ℤ v) -ℤ u ≡ v
 cancelled u v = omega (arith, ints)
 
 -- a shift by c takes c off the power, which stays at least 0
