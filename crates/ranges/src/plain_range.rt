@@ -42,10 +42,7 @@ impl Range for Plain {
     }
 
     fn constant(c: i32) -> Option<Plain> {
-        make(Span {
-            low: c as i64,
-            high: c as i64,
-        })
+        make(Span::point(c))
     }
 
     fn low(&self) -> i32 {
@@ -85,7 +82,8 @@ impl Range for Plain {
     }
 
     fn apart(&self, span: Span) -> bool {
-        (self.high as i64).min(span.high) < (self.low as i64).max(span.low)
+        let both = Span::from(self.to_row()).meet(span);
+        both.high < both.low
     }
 
     fn to_row(&self) -> Row {
@@ -107,9 +105,6 @@ impl Narrowing for Plain {
     ghost keeps = { plain_keeps };
 
     fn keep(&self, span: Span) -> Option<Plain> {
-        make(Span {
-            low: (self.low as i64).max(span.low),
-            high: (self.high as i64).min(span.high),
-        })
+        make(Span::from(self.to_row()).meet(span))
     }
 }

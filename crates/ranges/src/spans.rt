@@ -1,7 +1,8 @@
 //! The plain answer of each operation, by the operands' ends alone. Every kind of range starts from
 //! it.
 ghost use Rattle.std.specs.Prelude.{◌≡◌};
-ghost use Rattle.ranges.specs.Bounds.{fit};
+ghost use Rattle.std.specs.Int.{int_max, int_min};
+ghost use Rattle.ranges.specs.Bounds.{fit, point};
 ghost use Rattle.ranges.specs.Hulls.{ends_add, ends_sub, ends_mul, ends_sqr, ends_min, ends_shr, low_square};
 ghost use Rattle.ranges.specs.Kind.{ends};
 ghost use Rattle.ranges.specs.Spans.{span_ends};
@@ -20,6 +21,27 @@ pub struct Span {
 }
 
 impl Span {
+    /// The ends of one number.
+    pub fn point(c: i32) -> Span
+        ensures { span_ends result ≡ point c }
+    {
+        Span {
+            low: c as i64,
+            high: c as i64,
+        }
+    }
+
+    /// What two spans have in common: crossed ends where that is nothing.
+    pub fn meet(self, other: Span) -> Span
+        ensures low { result.low ≡ int_max self.low other.low }
+        ensures high { result.high ≡ int_min self.high other.high }
+    {
+        Span {
+            low: self.low.max(other.low),
+            high: self.high.min(other.high),
+        }
+    }
+
     /// Whether the ends are in order and within the bound.
     pub fn fits(&self) -> bool
         ensures { result ≡ fit (span_ends self.now) }

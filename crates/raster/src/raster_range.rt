@@ -20,11 +20,7 @@ use whole::product;
 fn cut(r: &Raster, span: Span) -> Option<Raster>
     ensures { rowed raster_row result ≡ raster_kept (raster_row r.now) span.low span.high }
 {
-    let kept = Span {
-        low: (r.low as i64).max(span.low),
-        high: (r.high as i64).min(span.high),
-    };
-    make_inward(kept, r.low as i64, r.power)
+    make_inward(Span::from(r.to_row()).meet(span), r.low as i64, r.power)
 }
 
 impl Range for Raster {
@@ -49,11 +45,7 @@ impl Range for Raster {
     }
 
     fn constant(c: i32) -> Option<Raster> {
-        let span = Span {
-            low: c as i64,
-            high: c as i64,
-        };
-        make(span, Power::LARGEST)
+        make(Span::point(c), Power::LARGEST)
     }
 
     fn low(&self) -> i32 {
