@@ -10,15 +10,15 @@ use Rattle.ranges.specs.HullsLemmas.{ends_at}
 use Rattle.inverses.specs.Inverses.{back_square}
 use Rattle.inverses.specs.InverseLaws.{InverseOneOf}
 
-pub square_inverse : (z x : Ends) → InverseOneOf square z x (back_square z x)
+pub square_inverse : (z x r : Ends) → r ≡ back_square z x → InverseOneOf square z x r
 unfolding back_square
-square_inverse z x u p h =
+square_inverse z x r e u p h = rw e (
     let s = root_up z.lo in
     by_lt_z (neg_ℤ s) x.lo
     (λ a. rw (is_lt (neg_ℤ s) x.lo a) (roots_above u z.lo z.hi h (omega (arith, ints))))
     (λ a. by_lt_z x.hi s
     (λ b. rw (not_lt (neg_ℤ s) x.lo a, is_lt x.hi s b) (roots_below u z.lo z.hi h (omega (arith, ints))))
-    (λ b. rw (not_lt (neg_ℤ s) x.lo a, not_lt x.hi s b) (amid_roots u z.hi h.high)))
+    (λ b. rw (not_lt (neg_ℤ s) x.lo a, not_lt x.hi s b) (amid_roots u z.hi h.high))))
 
 -- the ends by the way that is taken
 pub above_is : (z x : Ends) (l h : ℤ) → neg_ℤ (root_up z.lo) <ℤ x.lo → l ≡ root_up z.lo → h ≡ root_down z.hi →

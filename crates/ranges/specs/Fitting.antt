@@ -1,6 +1,5 @@
 -- Rows of the plain kind: which there are, what they hold, and the answer with given ends.
 use Rattle.std.specs.Prelude.{◌≡◌, true, ℤ, negsuc, Some, None, Option, ◌==◌, int_le, refl}
-use Rattle.std.proofs.Common.{ap, ◌∙◌}
 use Rattle.std.proofs.lemmas.Bool.{and_parts, and_from, both_ways, cond_both, eqb-true}
 use Rattle.whole.specs.Laws.{Amid}
 use Rattle.whole.proofs.Products.{is_le, le_in}
@@ -48,10 +47,6 @@ plain_yes e o = plain_by e (λ p. p ≡ Some (row_of e)) (λ _. refl) (λ n. abs
 
 pub plain_no : (e : Ends) → (Ordered e → ⊥) → plain e ≡ None
 plain_no e n = plain_by e (λ p. p ≡ None) (λ o. absurd (n o)) (λ _. refl)
-
--- the same ends give the same answer
-pub plain_at : (l h l' h' : ℤ) → l ≡ l' → h ≡ h' → plain (record { lo = l; hi = h }) ≡ plain (record { lo = l'; hi = h' })
-plain_at l h l' h' e f = ap (λ z. plain (record { lo = z; hi = h })) e ∙ ap (λ z. plain (record { lo = l'; hi = z })) f
 
 -- a range with those ends is the answer
 pub plain_is : (l h l' h' : ℤ) → l ≡ l' → h ≡ h' → Ordered (record { lo = l'; hi = h' }) → Some (row_of (record { lo = l; hi = h })) ≡ plain (record { lo = l'; hi = h' })

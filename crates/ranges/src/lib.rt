@@ -8,7 +8,7 @@
 //! leaves the bound, 2^30 on either side of 0. `Narrowing` adds keeping: exactly the held numbers
 //! from x to y. Generic code is proved against these alone.
 //!
-//! `spans` works out the plain answer of each operation from the operands' ends, for finer kinds to
+//! `spans` works out the plain answer of each operation from the operands' ends, for every kind to
 //! start from. The plain range holds all numbers from low to high. Its answers are the least plain
 //! ranges that hold every result, and they grow with their operands (specs/PlainLaws).
 #![tactic(auto)]

@@ -1,7 +1,7 @@
 ghost use Rattle.std.specs.Prelude.{pos, negsuc, ◌≤ℤ◌};
 
 /// All whole numbers from low to high, within the bound.
-#[derive(Clone, Copy)]
+#[derive(Clone, Copy, PartialEq, Eq, Debug)]
 pub struct Plain {
     pub(crate) low: i32,
     pub(crate) high: i32,

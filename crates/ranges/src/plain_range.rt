@@ -3,25 +3,25 @@ ghost use Rattle.ranges.specs.Kind.{rowed};
 ghost use Rattle.ranges.specs.Plains.{plain, plain_row, plain_kind, plain_keeper};
 ghost use Rattle.ranges.specs.Lawfulness.{plain_lawful, plain_keeps};
 ghost use Rattle.ranges.specs.Fitting.{plain_valid};
+ghost use Rattle.ranges.specs.Spans.{span_ends};
 
 use crate::narrowing::Narrowing;
 use crate::plain::Plain;
 use crate::range::Range;
 use crate::row::Row;
-use crate::spans::{BOUND, least_square};
+use crate::spans::{Span, add_ends, min_ends, mul_ends, shr_ends, sqr_ends, sub_ends};
 use boxes::side::Side;
-use whole::{greatest, least, product, shift_down};
 
-/// The plain range from low to high, if they are in order and within the bound.
-fn make(low: i64, high: i64) -> Option<Plain>
-    ensures { rowed plain_row result ≡ plain (record { lo = low; hi = high }) }
+/// The plain range with these ends, if they are in order and within the bound.
+fn make(span: Span) -> Option<Plain>
+    ensures { rowed plain_row result ≡ plain (span_ends span) }
 {
-    if low < -BOUND || low > high || high > BOUND {
+    if !span.fits() {
         return None;
     }
     Some(Plain {
-        low: low as i32,
-        high: high as i32,
+        low: span.low as i32,
+        high: span.high as i32,
     })
 }
 
@@ -42,7 +42,7 @@ impl Range for Plain {
     }
 
     fn constant(c: i32) -> Option<Plain> {
-        make(c as i64, c as i64)
+        make(Span::point(c))
     }
 
     fn low(&self) -> i32 {
@@ -54,50 +54,36 @@ impl Range for Plain {
     }
 
     fn add(&self, other: &Plain) -> Option<Plain> {
-        let low = self.low as i64 + other.low as i64;
-        let high = self.high as i64 + other.high as i64;
-        make(low, high)
+        make(add_ends(self.to_row(), other.to_row()))
     }
 
     fn sub(&self, other: &Plain) -> Option<Plain> {
-        let low = self.low as i64 - other.high as i64;
-        let high = self.high as i64 - other.low as i64;
-        make(low, high)
+        make(sub_ends(self.to_row(), other.to_row()))
     }
 
     fn mul(&self, other: &Plain) -> Option<Plain> {
-        let ll = product(self.low, other.low);
-        let lh = product(self.low, other.high);
-        let hl = product(self.high, other.low);
-        let hh = product(self.high, other.high);
-        make(least(ll, lh, hl, hh), greatest(ll, lh, hl, hh))
+        make(mul_ends(self.to_row(), other.to_row()))
     }
 
     fn sqr(&self) -> Option<Plain> {
-        let ll = product(self.low, self.low);
-        let hh = product(self.high, self.high);
-        make(least_square(self.low, self.high), ll.max(hh))
+        make(sqr_ends(self.to_row()))
     }
 
     fn min(&self, other: &Plain) -> Option<Plain> {
-        let low = self.low.min(other.low);
-        let high = self.high.min(other.high);
-        make(low as i64, high as i64)
+        make(min_ends(self.to_row(), other.to_row()))
     }
 
     fn shr(&self, by: u32) -> Option<Plain> {
-        make(
-            shift_down(self.low as i64, by),
-            shift_down(self.high as i64, by),
-        )
+        make(shr_ends(self.to_row(), by))
     }
 
-    fn within(&self, low: i32, high: i32) -> bool {
-        (low <= self.low) & (self.high <= high)
+    fn within(&self, span: Span) -> bool {
+        (span.low <= self.low as i64) & (self.high as i64 <= span.high)
     }
 
-    fn apart(&self, low: i32, high: i32) -> bool {
-        self.high.min(high) < self.low.max(low)
+    fn apart(&self, span: Span) -> bool {
+        let both = Span::from(self.to_row()).meet(span);
+        both.high < both.low
     }
 
     fn to_row(&self) -> Row {
@@ -109,10 +95,7 @@ impl Range for Plain {
     }
 
     fn from_row(r: Row) -> Plain {
-        match make(r.low as i64, r.high as i64) {
-            Some(p) => p,
-            None => Plain { low: 0, high: 0 },
-        }
+        make(r.into()).unwrap_or(Plain { low: 0, high: 0 })
     }
 }
 
@@ -121,7 +104,7 @@ impl Narrowing for Plain {
 
     ghost keeps = { plain_keeps };
 
-    fn keep(&self, x: i64, y: i64) -> Option<Plain> {
-        make((self.low as i64).max(x), (self.high as i64).min(y))
+    fn keep(&self, span: Span) -> Option<Plain> {
+        make(Span::from(self.to_row()).meet(span))
     }
 }

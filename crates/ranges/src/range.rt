@@ -3,6 +3,7 @@ ghost use Rattle.ranges.specs.declared.row.Row.{Row};
 ghost use Rattle.ranges.specs.Kind.{Kind, Lawful, Valid, rowed};
 
 use crate::row::Row;
+use crate::spans::Span;
 use boxes::side::Side;
 
 /// A kind of range. Its meaning is `kind`, over rows, and each range has a row.
@@ -51,13 +52,13 @@ pub trait Range: Copy {
     fn shr(&self, by: u32) -> Option<Self>
         ensures { rowed row result ≡ kind.shift by (row self.now) };
 
-    /// Whether every held number is from low to high.
-    fn within(&self, low: i32, high: i32) -> bool
-        ensures { result ≡ kind.within (row self.now) low high };
+    /// Whether every held number is in the span.
+    fn within(&self, span: Span) -> bool
+        ensures { result ≡ kind.within (row self.now) span.low span.high };
 
-    /// Whether no held number is from low to high.
-    fn apart(&self, low: i32, high: i32) -> bool
-        ensures { result ≡ kind.apart (row self.now) low high };
+    /// Whether no held number is in the span.
+    fn apart(&self, span: Span) -> bool
+        ensures { result ≡ kind.apart (row self.now) span.low span.high };
 
     /// The row of the range, for scratch memory.
     fn to_row(&self) -> Row

@@ -1,7 +1,8 @@
-//! The plain answer of each operation, by the operands' ends alone. Finer kinds of range start from
+//! The plain answer of each operation, by the operands' ends alone. Every kind of range starts from
 //! it.
 ghost use Rattle.std.specs.Prelude.{◌≡◌};
-ghost use Rattle.ranges.specs.Bounds.{fit};
+ghost use Rattle.std.specs.Int.{int_max, int_min};
+ghost use Rattle.ranges.specs.Bounds.{fit, point};
 ghost use Rattle.ranges.specs.Hulls.{ends_add, ends_sub, ends_mul, ends_sqr, ends_min, ends_shr, low_square};
 ghost use Rattle.ranges.specs.Kind.{ends};
 ghost use Rattle.ranges.specs.Spans.{span_ends};
@@ -10,21 +11,54 @@ use crate::row::Row;
 use whole::{greatest, least, product, shift_down};
 
 /// The bound of all values, on either side of 0.
-pub(crate) const BOUND: i64 = 1 << 30;
+const BOUND: i64 = 1 << 30;
 
 /// Two ends, wide enough for the plain answer of any operation.
-#[derive(Clone, Copy)]
+#[derive(Clone, Copy, PartialEq, Eq, Debug)]
 pub struct Span {
     pub low: i64,
     pub high: i64,
 }
 
 impl Span {
+    /// The ends of one number.
+    pub fn point(c: i32) -> Span
+        ensures { span_ends result ≡ point c }
+    {
+        Span {
+            low: c as i64,
+            high: c as i64,
+        }
+    }
+
+    /// What two spans have in common: crossed ends where that is nothing.
+    pub fn meet(self, other: Span) -> Span
+        ensures low { result.low ≡ int_max self.low other.low }
+        ensures high { result.high ≡ int_min self.high other.high }
+    {
+        Span {
+            low: self.low.max(other.low),
+            high: self.high.min(other.high),
+        }
+    }
+
     /// Whether the ends are in order and within the bound.
     pub fn fits(&self) -> bool
         ensures { result ≡ fit (span_ends self.now) }
     {
         (-BOUND <= self.low) & ((self.low <= self.high) & (self.high <= BOUND))
+    }
+}
+
+/// The ends of a row.
+impl From<Row> for Span {
+    ghost from_gives = { λ row span. span_ends span ≡ ends row };
+
+    fn from(row: Row) -> Span {
+        Span {
+            low: row.low as i64,
+            high: row.high as i64,
+        }
     }
 }
 
@@ -62,14 +96,14 @@ pub fn mul_ends(a: Row, b: Row) -> Span
     }
 }
 
-/// The least square of the numbers from low to high: 0 where they have both signs.
-pub(crate) fn least_square(low: i32, high: i32) -> i64
-    ensures { result ≡ low_square low high }
+/// The least square of the numbers from the low end to the high one: 0 where they have both signs.
+fn least_square(a: Row) -> i64
+    ensures { result ≡ low_square a.low a.high }
 {
-    if low >= 0 {
-        product(low, low)
-    } else if high <= 0 {
-        product(high, high)
+    if a.low >= 0 {
+        product(a.low, a.low)
+    } else if a.high <= 0 {
+        product(a.high, a.high)
     } else {
         0
     }
@@ -80,7 +114,7 @@ pub fn sqr_ends(a: Row) -> Span
     ensures { span_ends result ≡ ends_sqr (ends a) }
 {
     Span {
-        low: least_square(a.low, a.high),
+        low: least_square(a),
         high: product(a.low, a.low).max(product(a.high, a.high)),
     }
 }

@@ -9,7 +9,7 @@ use Rattle.std.specs.Int.{int_max, int_min}
 use Rattle.whole.specs.Laws.{Amid, Multiple}
 use Rattle.whole.proofs.Multiples.{neg_mul}
 use Rattle.whole.proofs.Shifts.{floor_low}
-use Rattle.whole.proofs.Congruences.{multiple_none, multiple_back, multiple_between, multiple_through, floor_greatest}
+use Rattle.whole.proofs.Congruences.{multiple_none, multiple_back, multiple_between, multiple_through, floor_greatest, cancelled}
 use Rattle.boxes.specs.Boxes.{Ends}
 use Rattle.ranges.specs.declared.row.Row.{Row}
 use Rattle.ranges.specs.Bounds.{Bounded, Inside, fit}
@@ -38,9 +38,6 @@ greatest b f v h = omega (arith, ints)
 taken : (b f : ℤ) → (b -ℤ f) -ℤ b ≡ neg_ℤ f
 taken b f = omega (arith, ints)
 
-added : (b f : ℤ) → (b +ℤ f) -ℤ b ≡ f
-added b f = omega (arith, ints)
-
 turned : (b l v : ℤ) → l ≤ℤ v → (b -ℤ v) ≤ℤ (b -ℤ l)
 turned b l v h = omega (arith, ints)
 
@@ -61,7 +58,7 @@ module _ (base : ℤ) (t : ℕ) (e : Ends) where
       record { times = neg_ℤ q; is = taken base (q *ℤ pos (2 ^ t)) ∙ neg_mul q (pos (2 ^ t)) }
 
   high_on : Multiple (2 ^ t) ((inward base t e).hi -ℤ base)
-  high_on = let q = shr_z (e.hi -ℤ base) (2 ^ t) in record { times = q; is = added base (q *ℤ pos (2 ^ t)) }
+  high_on = let q = shr_z (e.hi -ℤ base) (2 ^ t) in record { times = q; is = cancelled base (q *ℤ pos (2 ^ t)) }
 
   -- the range with the moved ends holds exactly what lies between the ends on the raster of base
   into : (v : ℤ) → On e v → Multiple (2 ^ t) (v -ℤ base) → Held (row_at (inward base t e) t) v

@@ -60,7 +60,7 @@ raster_kept r x y = raster_inward r.low r.step (record { lo = int_max r.low x; h
 
 -- the row of a raster range of the code
 abbrev pub raster_row : Raster → Row
-raster_row p = row_at (record { lo = p.low; hi = p.high }) p.power
+raster_row p = row_at (record { lo = p.low; hi = p.high }) p.power.log
 
 -- the raster kind: plain ends with the power of the step that all results keep; a square's ends are moved inward, to the raster of low squared
 abbrev pub raster_kind : Kind

@@ -46,10 +46,10 @@ pub valid_in : (r : Row) → Valid raster_kind r → Fit (ends r) r.step
 valid_in r v = fits_in (ends r) r.step v
 
 pub raster_valid : (p : Raster) → Valid raster_kind (raster_row p)
-raster_valid p = fits_out (record { lo = p.low; hi = p.high }) p.power (record {
+raster_valid p = fits_out (record { lo = p.low; hi = p.high }) p.power.log (record {
   ordered = record { above = p.above; order = p.order; below = p.below };
-  limit = p.limit;
-  whole = multiple_in (2 ^ p.power) (p.high -ℤ p.low) p.whole;
+  limit = p.power.limit;
+  whole = multiple_in (2 ^ p.power.log) (p.high -ℤ p.low) p.whole;
 })
 
 pub holds_in : (r : Row) (x : ℤ) → Holds raster_kind r x → Held r x

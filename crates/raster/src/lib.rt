@@ -12,11 +12,13 @@
 //! operands to such numbers of its answer. How often 2 divides a number, which a product's step and
 //! a minimum's rest on, is the greatest power up to a limit (`GreatestPower` of `whole`).
 //!
-//! The plain ends themselves are worked out in `ranges::spans`.
+//! The plain ends themselves are worked out in `ranges::spans`. That t is at most 31 stands in its
+//! type, `Power`.
 #![tactic(auto)]
 
 pub mod laws;
 mod making;
+pub mod power;
 mod powers;
 pub mod raster;
 pub mod raster_range;

@@ -5,8 +5,9 @@ ghost use Rattle.raster.specs.Lawfulness.{raster_lawful};
 ghost use Rattle.raster.specs.Stepping.{raster_valid};
 ghost use Rattle.raster.specs.Inward.{raster_keeps};
 
-use crate::making::{make, make_inward};
-use crate::powers::{LARGEST, lesser_power, product_power};
+use crate::making::{make, make_inward, make_of};
+use crate::power::Power;
+use crate::powers::{lesser_power, product_power};
 use crate::raster::Raster;
 use boxes::side::Side;
 use ranges::narrowing::Narrowing;
@@ -15,15 +16,11 @@ use ranges::row::Row;
 use ranges::spans::{Span, add_ends, min_ends, mul_ends, shr_ends, sqr_ends, sub_ends};
 use whole::product;
 
-/// The held numbers from x to y, if there are any.
-fn cut(r: &Raster, x: i64, y: i64) -> Option<Raster>
-    ensures { rowed raster_row result ≡ raster_kept (raster_row r.now) x y }
+/// The held numbers in the span, if there are any.
+fn cut(r: &Raster, span: Span) -> Option<Raster>
+    ensures { rowed raster_row result ≡ raster_kept (raster_row r.now) span.low span.high }
 {
-    let span = Span {
-        low: (r.low as i64).max(x),
-        high: (r.high as i64).min(y),
-    };
-    make_inward(span, r.low as i64, r.power)
+    make_inward(Span::from(r.to_row()).meet(span), r.low as i64, r.power)
 }
 
 impl Range for Raster {
@@ -39,16 +36,16 @@ impl Range for Raster {
         Raster {
             low: side.low,
             high: side.high,
-            power: if side.high <= side.low { LARGEST } else { 0 },
+            power: if side.high <= side.low {
+                Power::LARGEST
+            } else {
+                Power::SMALLEST
+            },
         }
     }
 
     fn constant(c: i32) -> Option<Raster> {
-        let span = Span {
-            low: c as i64,
-            high: c as i64,
-        };
-        make(span, LARGEST)
+        make(Span::point(c), Power::LARGEST)
     }
 
     fn low(&self) -> i32 {
@@ -61,12 +58,12 @@ impl Range for Raster {
 
     fn add(&self, other: &Raster) -> Option<Raster> {
         let span = add_ends(self.to_row(), other.to_row());
-        make(span, self.power.min(other.power))
+        make(span, self.power.lesser(other.power))
     }
 
     fn sub(&self, other: &Raster) -> Option<Raster> {
         let span = sub_ends(self.to_row(), other.to_row());
-        make(span, self.power.min(other.power))
+        make(span, self.power.lesser(other.power))
     }
 
     fn mul(&self, other: &Raster) -> Option<Raster> {
@@ -86,38 +83,31 @@ impl Range for Raster {
 
     fn shr(&self, by: u32) -> Option<Raster> {
         let span = shr_ends(self.to_row(), by);
-        make(span, self.power.saturating_sub(by.min(30)))
+        make(span, self.power.lowered(by.min(30)))
     }
 
-    fn within(&self, low: i32, high: i32) -> bool {
-        (low <= self.low) & (self.high <= high)
+    fn within(&self, span: Span) -> bool {
+        (span.low <= self.low as i64) & (self.high as i64 <= span.high)
     }
 
-    fn apart(&self, low: i32, high: i32) -> bool {
-        cut(self, low as i64, high as i64).is_none()
+    fn apart(&self, span: Span) -> bool {
+        cut(self, span).is_none()
     }
 
     fn to_row(&self) -> Row {
         Row {
             low: self.low,
             high: self.high,
-            step: self.power,
+            step: self.power.log,
         }
     }
 
     fn from_row(r: Row) -> Raster {
-        let span = Span {
-            low: r.low as i64,
-            high: r.high as i64,
-        };
-        match make(span, r.step) {
-            Some(p) => p,
-            None => Raster {
-                low: 0,
-                high: 0,
-                power: LARGEST,
-            },
-        }
+        make_of(r).unwrap_or(Raster {
+            low: 0,
+            high: 0,
+            power: Power::LARGEST,
+        })
     }
 }
 
@@ -126,7 +116,7 @@ impl Narrowing for Raster {
 
     ghost keeps = { raster_keeps };
 
-    fn keep(&self, x: i64, y: i64) -> Option<Raster> {
-        cut(self, x, y)
+    fn keep(&self, span: Span) -> Option<Raster> {
+        cut(self, span)
     }
 }

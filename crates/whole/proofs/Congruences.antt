@@ -1,13 +1,14 @@
 -- Numbers that differ by multiples of a number (the field's congruences), and how each operation keeps them so.
 use Rattle.std.proofs.Common.{◌≡◌, ℕ, ◌+◌, ◌-◌, ◌*◌, ◌^◌, ◌<◌, ◌≤◌, ℤ, pos, ◌+ℤ◌, ◌-ℤ◌, ◌*ℤ◌, neg_ℤ, ◌≤ℤ◌, sym, ap, ◌∙◌, subst, ⊎_elim, arith}
 use lib.Signed.{shr_z}
+use Rattle.std.proofs.Math.IntN.{*ℤ_comm}
 use Rattle.std.proofs.lemmas.Int.{ints}
 use Rattle.std.proofs.lemmas.Nat.{pow_pos, pow-add}
 use Rattle.std.proofs.lemmas.Bool.{cases_lt}
 use Rattle.std.specs.Int.{int_min}
 use Rattle.whole.specs.Laws.{Multiple}
 use Rattle.whole.proofs.Corners.{pick_min}
-use Rattle.whole.proofs.Products.{mul_add, mul_assoc, mul_comm, mul_up}
+use Rattle.whole.proofs.Products.{mul_add, mul_assoc, mul_up}
 use Rattle.whole.proofs.Multiples.{neg_mul, multiple_add, multiple_sub, multiple_at, multiple_mul, multiple_pow}
 use Rattle.whole.proofs.Shifts.{shr_add}
 use Rattle.whole.proofs.Quotients.{at_most_in}
@@ -49,7 +50,7 @@ linear A B C D E F G p q r = omega (arith, ints)
 
 product_split : (x a y b : ℤ) → (x *ℤ y) -ℤ (a *ℤ b) ≡ ((x -ℤ a) *ℤ (y -ℤ b)) +ℤ (((x -ℤ a) *ℤ b) +ℤ (a *ℤ (y -ℤ b)))
 product_split x a y b =
-    let d : x *ℤ (y -ℤ b) ≡ (x *ℤ y) -ℤ (x *ℤ b) = rw (mul_comm x (y -ℤ b), mul_comm x y, mul_comm x b) (mul_sub y b x) in
+    let d : x *ℤ (y -ℤ b) ≡ (x *ℤ y) -ℤ (x *ℤ b) = rw (*ℤ_comm x (y -ℤ b), *ℤ_comm x y, *ℤ_comm x b) (mul_sub y b x) in
     linear ((x -ℤ a) *ℤ (y -ℤ b)) ((x -ℤ a) *ℤ b) (a *ℤ (y -ℤ b)) (x *ℤ (y -ℤ b)) (x *ℤ b) (a *ℤ b) (x *ℤ y) (mul_sub x a (y -ℤ b)) (mul_sub x a b) d
 
 -- powers of 2 in two factors add up in the product
@@ -71,7 +72,7 @@ split_pow t c q h =
 joined : (x a z : ℤ) → x -ℤ a ≡ z → x ≡ a +ℤ z
 joined x a z e = omega (arith, ints)
 
-cancelled : (u v : ℤ) → (u +ℤ v) -ℤ u ≡ v
+pub cancelled : (u v : ℤ) → (u +ℤ v) -ℤ u ≡ v
 cancelled u v = omega (arith, ints)
 
 -- a shift by c takes c off the power, which stays at least 0

@@ -1,6 +1,7 @@
 -- Orders of products of whole numbers.
 use Rattle.std.proofs.Common.{◌≡◌, ℕ, zero, suc, ◌+◌, ◌*◌, ◌/◌, ◌^◌, ◌<◌, ◌≤◌, true, false, cond, T, ℤ, pos, negsuc, ◌+ℤ◌, ◌*ℤ◌, ◌≤ℤ◌, ◌<ℤ◌, sym, ap, subst, mul-le-mul_right, mul-le-mul, div-add-mod', le-div_iff_mul-le, arith}
 use lib.Signed.{le_z, lt_z, shr_z}
+use Rattle.std.proofs.Math.IntN.{*ℤ_comm}
 use borrow.Author.Differences.{up, down, le_out, sum_is_lem, product_is}
 use Rattle.std.proofs.lemmas.Int.{ints, clamps, by_lt_z}
 use Rattle.std.specs.Int.{int_max, int_min}
@@ -34,9 +35,6 @@ mul_down x x' (pos zero) h p = omega (arith, ints)
 mul_down x x' (pos (suc n)) h p = absurd (omega (arith, ints))
 mul_down x x' (negsuc n) h p = omega (arith, ints, mul-le-mul_right (suc n) (le_out x x' h))
 
-pub mul_comm : (x y : ℤ) → x *ℤ y ≡ y *ℤ x
-mul_comm x y = omega (arith, ints)
-
 pub mul_add : (x y z : ℤ) → (x +ℤ y) *ℤ z ≡ x *ℤ z +ℤ y *ℤ z
 mul_add x y z = omega (arith, ints, ap (λ n. n * up z) (sum_is_lem x y), ap (λ n. n * down z) (sum_is_lem x y))
 
@@ -53,7 +51,7 @@ amid_mul a x b y h = by_lt_z y (pos 0)
     (λ n. let p = mul_up a x y h.low n in let q = mul_up x b y h.high n in omega (arith, ints, clamps))
 
 pub amid_mul' : (a x b y : ℤ) → Amid a x b → Amid (int_min (y *ℤ a) (y *ℤ b)) (y *ℤ x) (int_max (y *ℤ a) (y *ℤ b))
-amid_mul' a x b y h = rw (mul_comm y a, mul_comm y b, mul_comm y x) (amid_mul a x b y h)
+amid_mul' a x b y h = rw (*ℤ_comm y a, *ℤ_comm y b, *ℤ_comm y x) (amid_mul a x b y h)
 
 amid_of : (l p h l' q h' z : ℤ) → Amid l p h → Amid l' q h' → Amid (int_min p q) z (int_max p q) → Amid (int_min l l') z (int_max h h')
 amid_of l p h l' q h' z a b c = omega (arith, ints, clamps)
@@ -66,14 +64,14 @@ pub square_up : (x y : ℤ) → pos 0 ≤ℤ x → x ≤ℤ y → (x *ℤ x) ≤
 square_up x y p h =
     let q = mul_up x y x h p in
     let r = mul_up x y y h (omega (arith, ints)) in
-    let e = mul_comm x y in
+    let e = *ℤ_comm x y in
     omega (arith, ints)
 
 pub square_down : (x y : ℤ) → y ≤ℤ pos 0 → x ≤ℤ y → (y *ℤ y) ≤ℤ (x *ℤ x)
 square_down x y p h =
     let q = mul_down x y x h (omega (arith, ints)) in
     let r = mul_down x y y h p in
-    let e = mul_comm x y in
+    let e = *ℤ_comm x y in
     omega (arith, ints)
 
 pub square_pos : (x : ℤ) → pos 0 ≤ℤ (x *ℤ x)

@@ -1,6 +1,7 @@
 -- Rounded quotients of whole numbers: how they are worked out, and what they are.
 use Rattle.std.proofs.Common.{◌≡◌, ℕ, zero, suc, ◌<◌, ℤ, pos, negsuc, ◌+ℤ◌, ◌-ℤ◌, ◌*ℤ◌, neg_ℤ, ◌≤ℤ◌, ◌<ℤ◌, refl, arith}
 use lib.Signed.{shr_z}
+use Rattle.std.proofs.Math.IntN.{+ℤ_idl, neg_ℤ-neg_ℤ}
 use Rattle.std.specs.Int.{int_div_euclid}
 use Rattle.std.proofs.lemmas.Int.{ints, by_lt_z}
 use Rattle.whole.specs.Quotients.{floor, ceiling}
@@ -8,12 +9,6 @@ use Rattle.whole.specs.Laws.{AtMost, AtLeast, RoundedDown, RoundedUp}
 use Rattle.whole.proofs.Products.{mul_up, mul_add}
 use Rattle.whole.proofs.Multiples.{neg_mul}
 use Rattle.whole.proofs.Shifts.{floor_low, floor_high}
-
-neg_neg : (n : ℤ) → neg_ℤ (neg_ℤ n) ≡ n
-neg_neg n = omega (arith, ints)
-
-opposite : (n : ℤ) → pos 0 -ℤ n ≡ neg_ℤ n
-opposite n = omega (arith, ints)
 
 divide_up : (n : ℤ) (d : ℕ) → int_div_euclid n (pos d) ≡ shr_z n d
 divide_up (pos a) d = refl
@@ -32,17 +27,17 @@ floor_plain n (negsuc d) h = absurd (omega (arith, ints))
 pub floor_turned : (n d : ℤ) → d <ℤ pos 0 → int_div_euclid (pos 0 -ℤ n) (pos 0 -ℤ d) ≡ floor n d
 unfolding floor
 floor_turned n (pos d) h = absurd (omega (arith, ints))
-floor_turned n (negsuc d) h = rw (opposite n, opposite (negsuc d)) (divide_up (neg_ℤ n) (suc d))
+floor_turned n (negsuc d) h = rw (+ℤ_idl (neg_ℤ n), +ℤ_idl (neg_ℤ (negsuc d))) (divide_up (neg_ℤ n) (suc d))
 
 pub ceiling_plain : (n d : ℤ) → d <ℤ pos 0 → int_div_euclid n d ≡ ceiling n d
 unfolding floor ceiling
 ceiling_plain n (pos d) h = absurd (omega (arith, ints))
-ceiling_plain n (negsuc d) h = rw (neg_neg n) (divide_down n d)
+ceiling_plain n (negsuc d) h = rw (neg_ℤ-neg_ℤ n) (divide_down n d)
 
 pub ceiling_turned : (n d : ℤ) → pos 0 <ℤ d → int_div_euclid (pos 0 -ℤ n) (pos 0 -ℤ d) ≡ ceiling n d
 unfolding floor ceiling
 ceiling_turned n (pos zero) h = absurd (omega (arith, ints))
-ceiling_turned n (pos (suc d)) h = rw (opposite n, opposite (pos (suc d))) (divide_down (neg_ℤ n) d)
+ceiling_turned n (pos (suc d)) h = rw (+ℤ_idl (neg_ℤ n), +ℤ_idl (neg_ℤ (pos (suc d)))) (divide_down (neg_ℤ n) d)
 ceiling_turned n (negsuc d) h = absurd (omega (arith, ints))
 
 -- a number is at most a floor shift exactly when its multiple is at most what is shifted
@@ -110,6 +105,6 @@ pub ceiling_rounds : (n d : ℤ) → (d ≡ pos 0 → ⊥) → RoundedUp n d (ce
 ceiling_rounds n d z = record { high = ceiling_out n d (ceiling n d) z (omega (arith, ints)); least = λ q h. ceiling_in n d q z h }
 
 -- a floor shift is a quotient rounded down
-pub shift_rounds : (n : ℤ) (m : ℕ) → 0 < m → RoundedDown n (pos m) (shr_z n m)
+pub shift_rounds : (n : ℤ) (m : ℕ) (r : ℤ) → 0 < m → r ≡ shr_z n m → RoundedDown n (pos m) r
 unfolding floor
-shift_rounds n m p = floor_rounds n (pos m) (λ e. omega (arith, ints))
+shift_rounds n m r p e = rw e (floor_rounds n (pos m) (λ e. omega (arith, ints)))

@@ -93,8 +93,3 @@ unfolding root_up
 least_none (pos zero) p = refl
 least_none (pos (suc n)) p = absurd (omega (arith, ints))
 least_none (negsuc n) p = refl
-
-pub greatest_from : (n : ℤ) → negsuc 0 ≤ℤ root_down n
-unfolding root_down
-greatest_from (pos n) = omega (arith, ints)
-greatest_from (negsuc n) = omega (arith, ints)

@@ -1,14 +1,15 @@
 -- A number whose square is known between two numbers lies between their roots, on either side of 0.
 use Rattle.std.proofs.Common.{◌≡◌, ℤ, pos, ◌*ℤ◌, neg_ℤ, ◌≤ℤ◌, ◌<ℤ◌, arith}
+use Rattle.std.proofs.Math.IntN.{*ℤ_comm}
 use Rattle.std.proofs.lemmas.Int.{ints, by_lt_z}
 use Rattle.whole.specs.Laws.{Amid}
 use Rattle.whole.specs.Roots.{root_down, root_up}
 use Rattle.whole.proofs.Multiples.{neg_mul}
-use Rattle.whole.proofs.Products.{mul_comm, square_pos}
+use Rattle.whole.proofs.Products.{square_pos}
 use Rattle.whole.proofs.Roots.{greatest_root, least_root}
 
 square_neg : (x : ℤ) → neg_ℤ x *ℤ neg_ℤ x ≡ x *ℤ x
-square_neg x = let e = neg_mul x (neg_ℤ x) in let f = neg_mul x x in let g = mul_comm x (neg_ℤ x) in omega (arith, ints)
+square_neg x = let e = neg_mul x (neg_ℤ x) in let f = neg_mul x x in let g = *ℤ_comm x (neg_ℤ x) in omega (arith, ints)
 
 -- a square of at least n is that of a number at least the root of n away from 0
 root_above : (x n : ℤ) → n ≤ℤ (x *ℤ x) → pos 0 ≤ℤ x → root_up n ≤ℤ x

@@ -35,8 +35,8 @@ power_divides t k n =
     let r = trailing_divides k (nat_abs n) j (omega arith) in
     multiple_in (2 ^ j) n (ap (λ i. i % 2 ^ j) r.1 ∙ mul-mod_left r.0 (2 ^ j))
 
-pub greatest_power : (t k : ℕ) (n : ℤ) → t ≤ k → GreatestPower t n (min t (count_trailing_zeros k (nat_abs n)))
-greatest_power t k n h = record {
+pub greatest_power : (t k : ℕ) (n : ℤ) (r : ℕ) → t ≤ k → r ≡ min t (count_trailing_zeros k (nat_abs n)) → GreatestPower t n r
+greatest_power t k n r h e = rw e record {
   most = omega arith;
   divides = power_divides t k n;
   greatest = λ j l m.

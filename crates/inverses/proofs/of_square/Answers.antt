@@ -1,9 +1,7 @@
-use Rattle.std.proofs.Common.{◌≡◌, sym, subst, arith}
+use Rattle.std.proofs.Common.{◌≡◌, arith}
 use Rattle.std.proofs.lemmas.Int.{ints, to_z-of_z}
 use Rattle.whole.specs.Roots.{root_down, root_up}
-use Rattle.ranges.specs.Hulls.{square}
 use Rattle.ranges.specs.Kind.{ends}
-use Rattle.inverses.specs.InverseLaws.{InverseOneOf}
 use Rattle.inverses.proofs.Squares.{above_is, around_is, below_is, square_inverse}
 use Rattle.inverses.proofs.of_square.Goals as goal
 
@@ -14,7 +12,7 @@ returns-then-x-s c =
     let s : c.root_up-s.result ≡ root_up z.lo = grind (arith, to_z-of_z) in
     let m : c.root_down-m.result ≡ root_down z.hi = grind (arith, to_z-of_z) in
     let e = above_is z x _ _ (omega (arith, ints)) (omega (arith, ints)) (omega (arith, ints)) in
-    record { value = e; sound = subst (InverseOneOf square z x) (sym e) (square_inverse z x) }
+    record { value = e; sound = square_inverse z x _ e }
 
 pub returns-then-x-s-2 : goal.returns-then-x-s-2
 returns-then-x-s-2 c =
@@ -23,7 +21,7 @@ returns-then-x-s-2 c =
     let s : c.root_up-s.result ≡ root_up z.lo = grind (arith, to_z-of_z) in
     let m : c.root_down-m.result ≡ root_down z.hi = grind (arith, to_z-of_z) in
     let e = below_is z x _ _ (omega (arith, ints)) (omega (arith, ints)) (omega (arith, ints)) (omega (arith, ints)) in
-    record { value = e; sound = subst (InverseOneOf square z x) (sym e) (square_inverse z x) }
+    record { value = e; sound = square_inverse z x _ e }
 
 pub returns-else-x-s-2 : goal.returns-else-x-s-2
 returns-else-x-s-2 c =
@@ -32,4 +30,4 @@ returns-else-x-s-2 c =
     let s : c.root_up-s.result ≡ root_up z.lo = grind (arith, to_z-of_z) in
     let m : c.root_down-m.result ≡ root_down z.hi = grind (arith, to_z-of_z) in
     let e = around_is z x _ _ (omega (arith, ints)) (omega (arith, ints)) (omega (arith, ints)) (omega (arith, ints)) in
-    record { value = e; sound = subst (InverseOneOf square z x) (sym e) (square_inverse z x) }
+    record { value = e; sound = square_inverse z x _ e }

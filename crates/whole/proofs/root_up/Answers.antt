@@ -4,10 +4,8 @@ use Rattle.whole.specs.Roots.{root_up}
 use Rattle.whole.proofs.Roots.{least_of, least_none, least_root}
 use Rattle.whole.proofs.root_up.Goals as goal
 
-pub returns-then-n-le0 : goal.returns-then-n-le0
-returns-then-n-le0 c =
-    let e = least_none c.args.n (omega (arith, ints)) in
-    record { value = e; root = rw e (least_root c.args.n) }
+pub returns-then-n-le0-clause-value : goal.returns-then-n-le0-clause-value
+returns-then-n-le0-clause-value c = least_none c.args.n (omega (arith, ints))
 
 pub returns-else-n-le0 : goal.returns-else-n-le0
 returns-else-n-le0 c =

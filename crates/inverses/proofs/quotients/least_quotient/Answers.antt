@@ -1,21 +1,7 @@
-use Rattle.std.proofs.Common.{◌≡◌, arith, w32, SFits, rules}
-use Rattle.std.proofs.lemmas.Int.{ints, to_z-of_z}
-use Rattle.whole.specs.Quotients.{ceiling}
+use Rattle.std.proofs.Common.{arith, w32, SFits, rules}
+use Rattle.std.proofs.lemmas.Int.{to_z-of_z}
 use Rattle.ranges.specs.Kind.{ends}
-use Rattle.inverses.proofs.Factors.{low_not_zero, high_not_zero}
 use Rattle.inverses.proofs.quotients.least_quotient.Goals as goal
-
-pub divide_up-requires : goal.divide_up-requires
-divide_up-requires c = λ e. low_not_zero (ends c.args.y) c.requires (omega (arith, ints))
-
-pub divide_up-requires-2 : goal.divide_up-requires-2
-divide_up-requires-2 c = λ e. high_not_zero (ends c.args.y) c.requires (omega (arith, ints))
-
-pub divide_up-requires-3 : goal.divide_up-requires-3
-divide_up-requires-3 c = λ e. low_not_zero (ends c.args.y) c.requires (omega (arith, ints))
-
-pub divide_up-requires-4 : goal.divide_up-requires-4
-divide_up-requires-4 c = λ e. high_not_zero (ends c.args.y) c.requires (omega (arith, ints))
 
 pub returns : goal.returns
 returns c =
@@ -25,8 +11,4 @@ returns c =
     let zh : SFits w32 z.hi = search rules in
     let yl : SFits w32 y.lo = search rules in
     let yh : SFits w32 y.hi = search rules in
-    let ll : c.divide_up.result ≡ ceiling z.lo y.lo = simp to_z-of_z at c.divide_up.ensures.value in
-    let lh : c.divide_up-2.result ≡ ceiling z.lo y.hi = simp to_z-of_z at c.divide_up-2.ensures.value in
-    let hl : c.divide_up-3.result ≡ ceiling z.hi y.lo = simp to_z-of_z at c.divide_up-3.ensures.value in
-    let hh : c.divide_up-4.result ≡ ceiling z.hi y.hi = simp to_z-of_z at c.divide_up-4.ensures.value in
     grind (arith, to_z-of_z)

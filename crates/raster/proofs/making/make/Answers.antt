@@ -29,15 +29,12 @@ whole_at l h l' h' t e f d = rw (e, f) (eqb-true _ _ d)
 pub returns-then-not-fits : goal.returns-then-not-fits
 returns-then-not-fits c =
     let e = span_ends c.args.span in
-    sym (raster_no e c.args.power (λ f. both_ways _ (sym c.if-not-fits.ensures) (fit_out e f.ordered)))
-
-pub returns-then-power-gt-LARGEST : goal.returns-then-power-gt-LARGEST
-returns-then-power-gt-LARGEST c = sym (raster_no (span_ends c.args.span) c.args.power (λ f. let l = f.limit in omega arith))
+    sym (raster_no e c.args.power.log (λ f. both_ways _ (sym c.if-not-fits.ensures) (fit_out e f.ordered)))
 
 pub returns-then-not-divides : goal.returns-then-not-divides
 returns-then-not-divides c =
     let s = c.args.span in
-    let t = c.args.power in
+    let t = c.args.power.log in
     let d = divided_at s _ t (fit_in (span_ends s) (sym c.if-not-fits.ensures)) c.if-not-divides.ensures in
     sym (raster_no (span_ends s) t (λ f. both_ways _ d (divided_out t (s.high -ℤ s.low) f.whole)))
 
@@ -47,19 +44,18 @@ invariant_of-result c =
     let o = fit_in (span_ends s) (sym c.if-not-fits.ensures) in
     let l : stored s.low ≡ s.low = omega (arith, ints) in
     let h : stored s.high ≡ s.high = omega (arith, ints) in
-    let d = divided_at s _ c.args.power o c.if-not-divides.ensures in
+    let d = divided_at s _ c.args.power.log o c.if-not-divides.ensures in
     record {
       above = omega (arith, ints);
       order = omega (arith, ints);
       below = omega (arith, ints);
-      limit = omega arith;
-      whole = whole_at s.low s.high (stored s.low) (stored s.high) c.args.power l h d;
+      whole = whole_at s.low s.high (stored s.low) (stored s.high) c.args.power.log l h d;
     }
 
 pub returns : goal.returns
 returns c =
     let s = c.args.span in
-    let t = c.args.power in
+    let t = c.args.power.log in
     let o = fit_in (span_ends s) (sym c.if-not-fits.ensures) in
     let d = divided_at s _ t o c.if-not-divides.ensures in
-    raster_is _ _ s.low s.high t (omega (arith, ints)) (omega (arith, ints)) (record { ordered = o; limit = omega arith; whole = divided_in t (s.high -ℤ s.low) d })
+    raster_is _ _ s.low s.high t (omega (arith, ints)) (omega (arith, ints)) (record { ordered = o; limit = c.args.power.limit; whole = divided_in t (s.high -ℤ s.low) d })

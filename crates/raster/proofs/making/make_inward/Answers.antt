@@ -14,7 +14,7 @@ returns-then-not-fits c = sym (cond-false _ _ _ (sym c.if-not-fits.ensures))
 pub floor-requires : goal.floor-requires
 floor-requires c =
     let o = fit_in (span_ends c.args.span) (sym c.if-not-fits.ensures) in
-    (omega arith, (omega (arith, ints), omega (arith, ints)))
+    (omega (arith, ints), omega (arith, ints))
 
 pub overflow_sub-span : goal.overflow_sub-span
 overflow_sub-span c =
@@ -24,13 +24,13 @@ overflow_sub-span c =
 pub floor-requires-2 : goal.floor-requires-2
 floor-requires-2 c =
     let o = fit_in (span_ends c.args.span) (sym c.if-not-fits.ensures) in
-    (omega arith, (omega (arith, ints), omega (arith, ints)))
+    (omega (arith, ints), omega (arith, ints))
 
 pub returns : goal.returns
 unfolding raster_inward
 returns c =
     let s = c.args.span in
-    let t = c.args.power in
+    let t = c.args.power.log in
     let b = c.args.base in
     let o = fit_in (span_ends s) (sym c.if-not-fits.ensures) in
     let fb = c.ranges.base in

@@ -13,5 +13,5 @@ returns c =
     let ga : SFits w64 a.low = omega (arith, ints) in
     let gb : SFits w64 b.low = omega (arith, ints) in
     let gd : SFits w64 d = omega (arith, ints) in
-    let e : c.zeros.result ≡ zeros c.min.result d = simp to_z-of_z at c.zeros.ensures.value in
-    e ∙ ap (λ t. zeros t d) c.min.ensures
+    let e : c.zeros.result.log ≡ zeros c.lesser.result.log d = simp to_z-of_z at c.zeros.ensures.value in
+    e ∙ ap (λ t. zeros t d) c.lesser.ensures

@@ -8,5 +8,6 @@ use Rattle.ranges.proofs.plain_range.PlainNarrowing.keep.Goals as goal
 pub returns : goal.returns
 returns c =
     let a = plain_row c.args.self.now in
-    let e : rowed plain_row c.make.result ≡ plain_keeper.kept a c.args.x c.args.y = search rules in
-    record { value = e; exact = subst (Kept plain_kind a c.args.x c.args.y) (sym e) (plain_keeps a c.args.x c.args.y (plain_valid c.args.self.now)) }
+    let s = c.args.span in
+    let e : rowed plain_row c.make.result ≡ plain_keeper.kept a s.low s.high = search rules in
+    record { value = e; exact = subst (Kept plain_kind a s.low s.high) (sym e) (plain_keeps a s.low s.high (plain_valid c.args.self.now)) }

@@ -8,5 +8,6 @@ use Rattle.raster.proofs.raster_range.RasterNarrowing.keep.Goals as goal
 pub returns : goal.returns
 returns c =
     let a = raster_row c.args.self.now in
-    let e : rowed raster_row c.cut.result ≡ raster_keeper.kept a c.args.x c.args.y = search rules in
-    record { value = e; exact = subst (Kept raster_kind a c.args.x c.args.y) (sym e) (raster_keeps a c.args.x c.args.y (raster_valid c.args.self.now)) }
+    let s = c.args.span in
+    let e : rowed raster_row c.cut.result ≡ raster_keeper.kept a s.low s.high = search rules in
+    record { value = e; exact = subst (Kept raster_kind a s.low s.high) (sym e) (raster_keeps a s.low s.high (raster_valid c.args.self.now)) }

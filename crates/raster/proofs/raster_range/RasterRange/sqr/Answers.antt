@@ -10,4 +10,4 @@ make_inward-requires c =
     let e : c.product.result ≡ p.low *ℤ p.low = simp to_z-of_z at c.product.ensures in
     let b = square_bound p.low (omega (arith, ints)) (omega (arith, ints)) in
     let a = square_pos p.low in
-    (omega arith, (omega (arith, ints), omega (arith, ints)))
+    (omega (arith, ints), omega (arith, ints))
