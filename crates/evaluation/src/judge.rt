@@ -11,6 +11,7 @@ use boxes::region::Region;
 use jobs::job::Job;
 use ranges::range::Range;
 use ranges::row::Row;
+use ranges::spans::Span;
 
 /// How many targets are within and how many apart, by the rows of the registers.
 fn count<R: Range>(job: &Job, rows: &[Row]) -> Counts
@@ -21,8 +22,9 @@ fn count<R: Range>(job: &Job, rows: &[Row]) -> Counts
     let (mut within, mut apart) = (0, 0);
     for target in job.fields.targets.as_slice() {
         let range = R::from_row(rows[target.register as usize]);
-        within += usize::from(range.within(target.low, target.high));
-        apart += usize::from(range.apart(target.low, target.high));
+        let span = Span::from(*target);
+        within += usize::from(range.within(span));
+        apart += usize::from(range.apart(span));
     }
     Counts { within, apart }
 }

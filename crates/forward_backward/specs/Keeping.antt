@@ -93,33 +93,33 @@ module _ (k : Kind) (L : Lawful k) (n : Keeper) (K : Keeping k n) (vs : List ℤ
       let wa = w.0 in
       let wb = w.1 in
       both_keeps (Add a b) j a b rows l (omega arith) (omega arith) h
-      (λ z x y lz lx ly. (sum_inverse z y).first (v b) ly (v a) (fitted z _ _ o lz))
-      (λ z x y lz lx ly. (sum_inverse z x).second (v a) lx (v b) (fitted z _ _ o lz))
+      (λ z x y lz lx ly. (sum_inverse z y _ refl).first (v b) ly (v a) (fitted z _ _ o lz))
+      (λ z x y lz lx ly. (sum_inverse z x _ refl).second (v a) lx (v b) (fitted z _ _ o lz))
   operands_keep knob (Sub a b) j rows w l o h =
       let wa = w.0 in
       let wb = w.1 in
       both_keeps (Sub a b) j a b rows l (omega arith) (omega arith) h
-      (λ z x y lz lx ly. minuend_inverse z y (v b) ly (v a) (fitted z _ _ o lz))
-      (λ z x y lz lx ly. subtrahend_inverse z x (v a) lx (v b) (fitted z _ _ o lz))
+      (λ z x y lz lx ly. minuend_inverse z y _ refl (v b) ly (v a) (fitted z _ _ o lz))
+      (λ z x y lz lx ly. subtrahend_inverse z x _ refl (v a) lx (v b) (fitted z _ _ o lz))
   operands_keep knob (Mul a b) j rows w l o h =
       let wa = w.0 in
       let wb = w.1 in
       both_keeps (Mul a b) j a b rows l (omega arith) (omega arith) h
-      (λ z x y lz lx ly. known_map (InverseBoth ◌*ℤ◌ z y) (λ e. Lies e (v a)) (back_factor z y) (λ e p. p.first (v b) ly (v a) (fitted z _ _ o lz)) (factor_inverse z y))
-      (λ z x y lz lx ly. known_map (InverseBoth ◌*ℤ◌ z x) (λ e. Lies e (v b)) (back_factor z x) (λ e p. p.second (v a) lx (v b) (fitted z _ _ o lz)) (factor_inverse z x))
+      (λ z x y lz lx ly. known_map (InverseBoth ◌*ℤ◌ z y) (λ e. Lies e (v a)) (back_factor z y) (λ e p. p.first (v b) ly (v a) (fitted z _ _ o lz)) (factor_inverse z y _ refl))
+      (λ z x y lz lx ly. known_map (InverseBoth ◌*ℤ◌ z x) (λ e. Lies e (v b)) (back_factor z x) (λ e p. p.second (v a) lx (v b) (fitted z _ _ o lz)) (factor_inverse z x _ refl))
   operands_keep knob (Sqr a) j rows w l o h =
       both_keeps (Sqr a) j a a rows l (omega arith) (omega arith) h
-      (λ z x y lz lx ly. square_inverse z x (v a) lx (fitted z _ _ o lz))
+      (λ z x y lz lx ly. square_inverse z x _ refl (v a) lx (fitted z _ _ o lz))
       (λ z x y lz lx ly. tt)
   operands_keep knob (Min a b) j rows w l o h =
       let wa = w.0 in
       let wb = w.1 in
       both_keeps (Min a b) j a b rows l (omega arith) (omega arith) h
-      (λ z x y lz lx ly. (lesser_inverse z x y).first (v b) ly (v a) lx (fitted z _ _ o lz))
-      (λ z x y lz lx ly. (lesser_inverse z y x).second (v a) lx (v b) ly (fitted z _ _ o lz))
+      (λ z x y lz lx ly. (lesser_inverse z x y _ refl).first (v b) ly (v a) lx (fitted z _ _ o lz))
+      (λ z x y lz lx ly. (lesser_inverse z y x _ refl).second (v a) lx (v b) ly (fitted z _ _ o lz))
   operands_keep knob (Shr a b) j rows w l o h =
       both_keeps (Shr a b) j a a rows l (omega arith) (omega arith) h
-      (λ z x y lz lx ly. shifted_inverse b z (v a) (fitted z _ _ o lz))
+      (λ z x y lz lx ly. shifted_inverse b z _ refl (v a) (fitted z _ _ o lz))
       (λ z x y lz lx ly. tt)
 
 pub narrowing_keeps : NarrowingKeeps

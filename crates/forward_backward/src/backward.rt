@@ -70,11 +70,7 @@ fn aim<R: Narrowing>(job: &Job, rows: &mut [Row]) -> Option<()>
     ensures { Left (aimed R.Range.kind R.Narrowing.keeper (content_of job.now).targets rows.old) result rows.new }
 {
     for target in job.fields.targets.as_slice() {
-        let span = Span {
-            low: target.low as i64,
-            high: target.high as i64,
-        };
-        narrow::<R>(rows, target.register as usize, span)?;
+        narrow::<R>(rows, target.register as usize, Span::from(*target))?;
     }
     Some(())
 }

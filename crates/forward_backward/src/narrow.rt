@@ -23,7 +23,7 @@ pub(crate) fn narrow<R: Narrowing>(rows: &mut [Row], register: usize, span: Span
     requires { register < length rows.old }
     ensures { Left (narrowed R.Range.kind R.Narrowing.keeper rows.old register (span_ends span)) result rows.new }
 {
-    let kept = R::from_row(rows[register]).keep(span.low, span.high)?;
+    let kept = R::from_row(rows[register]).keep(span)?;
     rows[register] = kept.to_row();
     Some(())
 }

@@ -78,7 +78,7 @@ impl Range for Plain {
     }
 
     fn within(&self, span: Span) -> bool {
-        (span.low <= self.low as i64) & (self.high as i64 <= span.high)
+        Span::from(self.to_row()).inside(span)
     }
 
     fn apart(&self, span: Span) -> bool {

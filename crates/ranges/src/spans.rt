@@ -2,6 +2,7 @@
 //! it.
 ghost use Rattle.std.specs.Prelude.{◌≡◌};
 ghost use Rattle.std.specs.Int.{int_max, int_min};
+ghost use Rattle.boxes.specs.Boxes.{covers};
 ghost use Rattle.ranges.specs.Bounds.{fit, point};
 ghost use Rattle.ranges.specs.Hulls.{ends_add, ends_sub, ends_mul, ends_sqr, ends_min, ends_shr, low_square};
 ghost use Rattle.ranges.specs.Kind.{ends};
@@ -11,7 +12,7 @@ use crate::row::Row;
 use whole::{greatest, least, product, shift_down};
 
 /// The bound of all values, on either side of 0.
-const BOUND: i64 = 1 << 30;
+pub const BOUND: i32 = 1 << 30;
 
 /// Two ends, wide enough for the plain answer of any operation.
 #[derive(Clone, Copy, PartialEq, Eq, Debug)]
@@ -42,11 +43,19 @@ impl Span {
         }
     }
 
+    /// Whether the ends lie within those of the other.
+    pub fn inside(self, other: Span) -> bool
+        ensures { result ≡ covers (span_ends other) (span_ends self) }
+    {
+        (other.low <= self.low) & (self.high <= other.high)
+    }
+
     /// Whether the ends are in order and within the bound.
     pub fn fits(&self) -> bool
         ensures { result ≡ fit (span_ends self.now) }
     {
-        (-BOUND <= self.low) & ((self.low <= self.high) & (self.high <= BOUND))
+        let bound = BOUND as i64;
+        (-bound <= self.low) & ((self.low <= self.high) & (self.high <= bound))
     }
 }
 

@@ -87,7 +87,7 @@ impl Range for Raster {
     }
 
     fn within(&self, span: Span) -> bool {
-        (span.low <= self.low as i64) & (self.high as i64 <= span.high)
+        Span::from(self.to_row()).inside(span)
     }
 
     fn apart(&self, span: Span) -> bool {

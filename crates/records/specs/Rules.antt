@@ -28,6 +28,10 @@ good_instruction knobs k (Shr a b) = nat_lt a k && nat_lt b 31
 abbrev pub good_target : ℕ → Target → Bool
 good_target registers t = nat_lt t.register registers && (bounded t.low && between t.low t.high (pos bound))
 
+-- the ends between which the target's register must lie
+abbrev pub target_ends : Target → Ends
+target_ends t = record { lo = t.low; hi = t.high }
+
 -- the target in the place of none
 abbrev pub no_target : Target
 no_target = record { register = 0; low = pos 0; high = pos 0 }

@@ -6,10 +6,11 @@ ghost use Rattle.records.specs.Entries.{instruction_at, instruction_fault, side_
 
 use crate::bytes::{read_i16, read_i32};
 use crate::instruction::Instruction;
-use crate::operation::{BOUND, Operation};
+use crate::operation::Operation;
 use crate::reason::{Reason, Refusal};
 use crate::target::Target;
 use boxes::side::{HIGHEST, LOWEST, Side};
+use ranges::spans::BOUND;
 
 /// Whether x lies from low to high.
 fn lies(low: i32, x: i32, high: i32) -> bool

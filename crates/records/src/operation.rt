@@ -3,9 +3,7 @@ ghost use Rattle.records.specs.Entries.{a_values, b_values, c_reach, decoded};
 ghost use Rattle.records.specs.Operations.{Decodes, code_of};
 
 use crate::instruction::Instruction;
-
-/// How far a constant or a target's end may lie from 0: 2^30.
-pub(crate) const BOUND: i32 = 1_073_741_824;
+use ranges::spans::BOUND;
 
 /// The operations, each with its code in a record.
 #[derive(Clone, Copy, PartialEq, Eq, Debug)]

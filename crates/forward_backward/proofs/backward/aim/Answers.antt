@@ -1,10 +1,10 @@
-use Rattle.std.proofs.Common.{◌+◌, ◌<◌, length, get_or, drop, sym, ap, ◌∙◌, arith, w64, SFits}
-use Rattle.std.proofs.lemmas.Int.{ints, to_z-of_z}
+use Rattle.std.proofs.Common.{◌+◌, ◌<◌, length, get_or, drop, Some, None, subst, sym, ap, ◌∙◌, arith}
 use Rattle.tables.specs.Tables.{entries}
 use Rattle.records.specs.Rules.{no_target}
 use Rattle.evaluation.proofs.Aiming.{aimed as target_aimed}
 use Rattle.cutters.specs.Cutting.{and_then}
 use Rattle.forward_backward.specs.Operands.{aimed, narrowed}
+use Rattle.forward_backward.specs.Told.{Left}
 use Rattle.forward_backward.specs.Turns.{aimed_over, aimed_turn, left_none, left_some, none_left, some_left}
 use Rattle.forward_backward.proofs.backward.aim.Goals as goal
 
@@ -12,7 +12,7 @@ pub narrow-requires : goal.narrow-requires
 narrow-requires g c =
     let e = c.as_slice-target-items.ensures in
     let a = target_aimed c.args.job.now.fields c.loop-target.target-index (omega (arith, ap length e, c.loop-target-test.true)) in
-    rw e (omega (arith, a.there, c.requires, c.loop-target.auto.rows))
+    rw e (omega (arith, a, c.requires, c.loop-target.auto.rows))
 
 pub returns-in_err-narrow : goal.returns-in_err-narrow
 returns-in_err-narrow g c =
@@ -24,12 +24,8 @@ returns-in_err-narrow g c =
     let t = get_or targets i no_target in
     let e = c.as_slice-target-items.ensures in
     let h : i < length targets = omega (arith, ap length e, c.loop-target-test.true) in
-    let a = target_aimed f i h in
-    let al = a.low in
-    let ah = a.high in
-    let wl : SFits w64 t.low = omega (arith, ints) in
-    let wh : SFits w64 t.high = omega (arith, ints) in
-    let left = left_none (narrowed k n c.loop-target.rows t.register (record { lo = t.low; hi = t.high })) c.narrow.new.rows (simp to_z-of_z at (rw e at c.in_err-narrow.ensures)) in
+    let ends = rw e at c.from.ensures in
+    let left = left_none (narrowed k n c.loop-target.rows t.register (record { lo = t.low; hi = t.high })) c.narrow.new.rows (subst (λ z. Left (narrowed k n c.loop-target.rows t.register z) None c.narrow.new.rows) ends (rw e at c.in_err-narrow.ensures)) in
     rw c.from_residual.ensures (none_left _ _ (sym c.loop-target.invariant ∙ aimed_turn k n targets i c.loop-target.rows h ∙ ap (λ o. and_then o (aimed k n (drop (i + 1) targets))) left))
 
 pub loop-target-preserved : goal.loop-target-preserved
@@ -42,12 +38,8 @@ loop-target-preserved g c =
     let t = get_or targets i no_target in
     let e = c.as_slice-target-items.ensures in
     let h : i < length targets = omega (arith, ap length e, c.loop-target-test.true) in
-    let a = target_aimed f i h in
-    let al = a.low in
-    let ah = a.high in
-    let wl : SFits w64 t.low = omega (arith, ints) in
-    let wh : SFits w64 t.high = omega (arith, ints) in
-    let left = left_some (narrowed k n c.loop-target.rows t.register (record { lo = t.low; hi = t.high })) c.narrow.new.rows (simp to_z-of_z at (rw e at c.in_ok-narrow.ensures)) in
+    let ends = rw e at c.from.ensures in
+    let left = left_some (narrowed k n c.loop-target.rows t.register (record { lo = t.low; hi = t.high })) c.narrow.new.rows (subst (λ z. Left (narrowed k n c.loop-target.rows t.register z) (Some c.in_ok-narrow.field-0) c.narrow.new.rows) ends (rw e at c.in_ok-narrow.ensures)) in
     sym (aimed_turn k n targets i c.loop-target.rows h ∙ ap (λ o. and_then o (aimed k n (drop (i + 1) targets))) left) ∙ c.loop-target.invariant
 
 pub returns : goal.returns
