@@ -16,7 +16,7 @@ pub aimed_by : (registers : ℕ) (t : Target) → good_target registers t ≡ tr
 aimed_by registers t e = ltb-true _ _ (and_parts (ltb t.register registers) _ e).0
 
 pub aimed : (f : Fields) (n : ℕ) → n < length (entries f.targets) → (get_or (entries f.targets) n no_target).register < length (entries f.program)
-aimed f n h = aimed_by (length (entries f.program)) _ (every_at (λ _ x. good_target (length (entries f.program)) x) 0 (entries f.targets) no_target f.aimed n h)
+aimed f n h = aimed_by (length (entries f.program)) (get_or (entries f.targets) n no_target) (every_at (λ _ x. good_target (length (entries f.program)) x) 0 (entries f.targets) no_target f.aimed n h)
 
 bit : (b : Bool) → bool_byte b ≡ cond b 1 0
 bit true = refl
