@@ -1,4 +1,5 @@
 //! Answers of ranges by their rows: ends, and the power of the step.
+use ranges::range::Range;
 
 pub enum Operation {
     Add,
@@ -7,6 +8,20 @@ pub enum Operation {
     Sqr,
     Min,
     Shr(u32),
+}
+
+impl Operation {
+    /// The answer for two ranges, of which some operations look at the first alone.
+    pub fn answer<R: Range>(&self, a: &R, b: &R) -> Option<R> {
+        match *self {
+            Operation::Add => a.add(b),
+            Operation::Sub => a.sub(b),
+            Operation::Mul => a.mul(b),
+            Operation::Sqr => a.sqr(),
+            Operation::Min => a.min(b),
+            Operation::Shr(by) => a.shr(by),
+        }
+    }
 }
 
 /// Two operands and the answer; none where it is too large.

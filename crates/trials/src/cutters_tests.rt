@@ -1,8 +1,7 @@
 use crate::cases::Kind;
 use crate::cuts::{CUTS, Cut, CutterKind};
-use crate::hexadecimal::bytes_of;
+use crate::jobs_read::{job_of, region_of};
 use boxes::region::Region;
-use boxes::side::Side;
 use cutters::cutter::Cutter;
 use cutters::idle::Idle;
 use cutters::repeat::Repeat;
@@ -19,55 +18,16 @@ use raster::raster::Raster;
 use std::process::Abort;
 use std::test::Fail;
 
-const EMPTY: Row = Row {
-    low: 0,
-    high: 0,
-    step: 0,
-};
-
 fn row(low: i32, high: i32) -> Row {
     Row { low, high, step: 0 }
 }
 
-fn ends(span: Option<Span>) -> Option<(i64, i64)> {
-    match span {
-        Some(s) => Some((s.low, s.high)),
-        None => None,
-    }
-}
-
-fn side(ends: (i32, i32)) -> Result<Side, Fail> {
-    match Side::new(ends.0, ends.1) {
-        Some(side) => Ok(side),
-        None => Err(Fail::new("no side")),
-    }
-}
-
-/// The box of a case.
-fn region_of(knobs: usize, sides: [(i32, i32); 4]) -> Result<Region, Fail> {
-    let sides = [
-        side(sides[0])?,
-        side(sides[1])?,
-        side(sides[2])?,
-        side(sides[3])?,
-    ];
-    if knobs < 1 || knobs > 4 {
-        return Err(Fail::new("no such number of knobs"));
-    }
-    Ok(Region { knobs, sides })
-}
-
 /// The box is the one of these sides.
-fn same(rt: &impl Abort, region: &Region, sides: [(i32, i32); 4], note: &str) -> Result<(), Fail> {
-    for k in 0..4 {
-        assert_eq!(rt;
-            (region.sides[k].low, region.sides[k].high),
-            sides[k],
-            "{}",
-            note
-        );
+fn same(rt: &impl Abort, region: &Region, sides: &[(i32, i32)], note: &str) {
+    assert_eq!(rt; region.knobs(), sides.len(), "{}", note);
+    for (side, ends) in region.sides().iter().zip(sides) {
+        assert_eq!(rt; (side.low, side.high), *ends, "{}", note);
     }
-    Ok(())
 }
 
 /// The cutter leaves what the case says, and the box as it is where nothing is left.
@@ -77,19 +37,20 @@ fn leaves<R: Range, C: Cutter<R>>(
     job: &Job,
     case: &Cut,
 ) -> Result<(), Fail> {
-    let mut region = region_of(case.knobs, case.sides)?;
-    let mut rows = [EMPTY; 64];
+    let mut region = region_of(case.sides)?;
+    let mut rows = [Row::default(); 64];
     let some = cutter.cut(job, &mut region, &mut rows);
     match case.left {
         Some(sides) => {
             assert!(rt; some, "{}", case.text);
-            same(rt, &region, sides, case.text)
+            same(rt, &region, sides, case.text);
         }
         None => {
             assert!(rt; !some, "{}", case.text);
-            same(rt, &region, case.sides, case.text)
+            same(rt, &region, case.sides, case.text);
         }
     }
+    Ok(())
 }
 
 fn leaves_by<R: Narrowing>(rt: &impl Abort, job: &Job, case: &Cut) -> Result<(), Fail> {
@@ -122,11 +83,8 @@ fn leaves_by<R: Narrowing>(rt: &impl Abort, job: &Job, case: &Cut) -> Result<(),
 
 #[test]
 fn outside_cuts(rt: HostRuntime) -> Result<(), Fail> {
-    for case in CUTS.iter() {
-        let bytes = bytes_of(rt.alloc(), case.text)?;
-        let Ok(job) = Job::read(bytes.as_slice()) else {
-            return Err(Fail::new(case.text));
-        };
+    for case in &CUTS {
+        let job = job_of(rt.alloc(), case.text)?;
         match case.kind {
             Kind::Plain => leaves_by::<Plain>(&rt, &job, case)?,
             Kind::Raster => leaves_by::<Raster>(&rt, &job, case)?,
@@ -137,25 +95,25 @@ fn outside_cuts(rt: HostRuntime) -> Result<(), Fail> {
 
 #[test]
 fn too_few_rows_leave_the_box(rt: HostRuntime) -> Result<(), Fail> {
-    let Some(case) = CUTS.first() else {
-        return Err(Fail::new("no case"));
-    };
-    let bytes = bytes_of(rt.alloc(), case.text)?;
-    let Ok(job) = Job::read(bytes.as_slice()) else {
-        return Err(Fail::new(case.text));
-    };
-    let mut region = region_of(case.knobs, case.sides)?;
-    let mut rows = [EMPTY; 3];
+    let case = CUTS.first().ok_or("no case")?;
+    let job = job_of(rt.alloc(), case.text)?;
+    let mut region = region_of(case.sides)?;
+    let mut rows = [Row::default(); 3];
     assert!(rt;
         <ForwardBackward as Cutter<Plain>>::cut(&ForwardBackward, &job, &mut region, &mut rows)
     );
-    same(&rt, &region, case.sides, case.text)
+    same(&rt, &region, case.sides, case.text);
+    Ok(())
 }
 
 #[test]
 fn factors(rt: HostRuntime) {
-    assert_eq!(rt; ends(of_factor(row(7, 8), row(3, 4))), Some((2, 2)));
-    assert_eq!(rt; ends(of_factor(row(7, 8), row(2, 2))), Some((4, 4)));
-    assert_eq!(rt; ends(of_factor(row(7, 8), row(-1, 4))), None);
-    assert_eq!(rt; ends(of_factor(row(-7, 8), row(-4, -3))), Some((-2, 2)));
+    let exactly = |n: i64| Some(Span { low: n, high: n });
+    assert_eq!(rt; of_factor(row(7, 8), row(3, 4)), exactly(2));
+    assert_eq!(rt; of_factor(row(7, 8), row(2, 2)), exactly(4));
+    assert_eq!(rt; of_factor(row(7, 8), row(-1, 4)), None);
+    assert_eq!(rt;
+        of_factor(row(-7, 8), row(-4, -3)),
+        Some(Span { low: -2, high: 2 })
+    );
 }

@@ -1,8 +1,6 @@
 use crate::cases::Kind;
-use crate::hexadecimal::bytes_of;
+use crate::jobs_read::{job_of, region_of};
 use crate::outside_judged::JUDGED;
-use boxes::region::Region;
-use boxes::side::Side;
 use evaluation::evaluate::evaluate;
 use evaluation::judge::{judge, judge_start};
 use evaluation::says::Says;
@@ -28,38 +26,18 @@ const UNUSED: Row = Row {
     step: 77,
 };
 
-fn job_of(rt: HostRuntime, text: &str) -> Result<Job, Fail> {
-    let bytes = bytes_of(rt.alloc(), text)?;
-    match Job::read(bytes.as_slice()) {
-        Ok(job) => Ok(job),
-        Err(_) => Err(Fail::new("the job is refused")),
-    }
-}
-
-/// The box of one knob.
-fn line(low: i32, high: i32) -> Result<Region, Fail> {
-    let Some(side) = Side::new(low, high) else {
-        return Err(Fail::new("no side"));
-    };
-    Ok(Region {
-        knobs: 1,
-        sides: [side; 4],
-    })
-}
-
 /// What the targets say of the box from low to high.
 fn said<R: Range>(job: &Job, low: i32, high: i32) -> Result<Says, Fail> {
     let mut rows = [UNUSED; 6];
-    match judge::<R>(job, &line(low, high)?, &mut rows) {
-        Ok(says) => Ok(says),
-        Err(_) => Err(Fail::new("the box is refused")),
-    }
+    judge::<R>(job, &region_of(&[(low, high)])?, &mut rows).map_err(|_| Fail::new(
+        "the box is refused",
+    ))
 }
 
 #[test]
 fn outside_start_boxes(rt: HostRuntime) -> Result<(), Fail> {
-    for case in JUDGED.iter() {
-        let job = job_of(rt, case.text)?;
+    for case in &JUDGED {
+        let job = job_of(rt.alloc(), case.text)?;
         let says = match case.kind {
             Kind::Plain => judge_start::<Plain>(&job),
             Kind::Raster => judge_start::<Raster>(&job),
@@ -71,7 +49,7 @@ fn outside_start_boxes(rt: HostRuntime) -> Result<(), Fail> {
 
 #[test]
 fn boxes_near_three(rt: HostRuntime) -> Result<(), Fail> {
-    let job = job_of(rt, NEAR_THREE)?;
+    let job = job_of(rt.alloc(), NEAR_THREE)?;
     assert_eq!(rt; said::<Plain>(&job, 0, 9)?, Says::Open);
     assert_eq!(rt; said::<Plain>(&job, 1, 5)?, Says::Within);
     assert_eq!(rt; said::<Plain>(&job, 0, 5)?, Says::Open);
@@ -83,7 +61,7 @@ fn boxes_near_three(rt: HostRuntime) -> Result<(), Fail> {
 
 #[test]
 fn multiples_on_the_raster(rt: HostRuntime) -> Result<(), Fail> {
-    let job = job_of(rt, NO_MULTIPLE)?;
+    let job = job_of(rt.alloc(), NO_MULTIPLE)?;
     assert_eq!(rt; judge_start::<Raster>(&job), Says::Apart);
     assert_eq!(rt; judge_start::<Plain>(&job), Says::Open);
     assert_eq!(rt; said::<Plain>(&job, 1, 1)?, Says::Apart);
@@ -92,24 +70,27 @@ fn multiples_on_the_raster(rt: HostRuntime) -> Result<(), Fail> {
 
 #[test]
 fn unfit_work_is_refused(rt: HostRuntime) -> Result<(), Fail> {
-    let job = job_of(rt, NEAR_THREE)?;
+    let job = job_of(rt.alloc(), NEAR_THREE)?;
     let mut few = [UNUSED; 3];
     assert_eq!(rt;
-        evaluate::<Plain>(&job, &line(0, 9)?, &mut few),
+        evaluate::<Plain>(&job, &region_of(&[(0, 9)])?, &mut few),
         Err(Unfit::Scratch)
     );
     assert!(rt; few[0].low == 7);
     let mut rows = [UNUSED; 5];
     assert_eq!(rt;
-        evaluate::<Plain>(&job, &line(0, 10)?, &mut rows),
+        evaluate::<Plain>(&job, &region_of(&[(0, 10)])?, &mut rows),
         Err(Unfit::Elsewhere)
     );
     assert_eq!(rt;
-        evaluate::<Plain>(&job, &line(-1, 9)?, &mut rows),
+        evaluate::<Plain>(&job, &region_of(&[(-1, 9)])?, &mut rows),
         Err(Unfit::Elsewhere)
     );
     assert!(rt; rows[3].low == 7);
-    assert_eq!(rt; evaluate::<Plain>(&job, &line(4, 9)?, &mut rows), Ok(()));
+    assert_eq!(rt;
+        evaluate::<Plain>(&job, &region_of(&[(4, 9)])?, &mut rows),
+        Ok(())
+    );
     assert!(rt; rows[3].low == 1 && rows[3].high == 36);
     assert!(rt; rows[4].low == 7 && rows[4].step == 77);
     Ok(())

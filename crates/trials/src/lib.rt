@@ -14,6 +14,8 @@ mod cutters_tests;
 #[cfg(test)]
 mod hexadecimal;
 #[cfg(test)]
+mod jobs_read;
+#[cfg(test)]
 mod judging_tests;
 #[cfg(test)]
 mod kinds_tests;

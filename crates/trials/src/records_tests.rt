@@ -1,5 +1,6 @@
 use crate::cases::{Accepted, Refused};
 use crate::hexadecimal::bytes_of;
+use crate::jobs_read::job_of;
 use crate::{outside, worked};
 use jobs::job::Job;
 use std::alloc::Global;
@@ -13,7 +14,7 @@ fn all_refused(rt: &impl Abort, heap: Global, cases: &[Refused]) -> Result<(), F
         let Err(refusal) = Job::read(bytes.as_slice()) else {
             return Err(Fail::new(case.text));
         };
-        assert_eq!(rt; refusal.reason.number(), case.number, "{}", case.text);
+        assert_eq!(rt; u32::from(refusal.reason), case.number, "{}", case.text);
         assert_eq!(rt; refusal.place, case.place, "{}", case.text);
     }
     Ok(())
@@ -22,10 +23,7 @@ fn all_refused(rt: &impl Abort, heap: Global, cases: &[Refused]) -> Result<(), F
 /// Each record is accepted, and its start box has so many settings.
 fn all_accepted(rt: &impl Abort, heap: Global, cases: &[Accepted]) -> Result<(), Fail> {
     for case in cases {
-        let bytes = bytes_of(heap, case.text)?;
-        let Ok(job) = Job::read(bytes.as_slice()) else {
-            return Err(Fail::new(case.text));
-        };
+        let job = job_of(heap, case.text)?;
         assert_eq!(rt; job.settings(), case.settings, "{}", case.text);
     }
     Ok(())
@@ -47,14 +45,14 @@ fn worked_records(rt: HostRuntime) -> Result<(), Fail> {
 fn noise(rt: HostRuntime) -> Result<(), Fail> {
     let mut bytes = [0u8; 1024];
     let mut state: u32 = 1;
-    for b in bytes.iter_mut() {
+    for b in &mut bytes {
         state = state.wrapping_mul(1_103_515_245).wrapping_add(12_345);
         *b = (state >> 24) as u8;
     }
     let Err(length) = Job::read(&bytes) else {
         return Err(Fail::new("noise is accepted"));
     };
-    assert_eq!(rt; length.reason.number(), 1);
+    assert_eq!(rt; u32::from(length.reason), 1);
     assert_eq!(rt; length.place, 0);
     bytes[0] = 0;
     bytes[1] = 0;
@@ -64,7 +62,7 @@ fn noise(rt: HostRuntime) -> Result<(), Fail> {
     let Err(shape) = Job::read(&bytes) else {
         return Err(Fail::new("noise behind a right head is accepted"));
     };
-    assert_eq!(rt; shape.reason.number(), 3);
+    assert_eq!(rt; u32::from(shape.reason), 3);
     assert_eq!(rt; shape.place, 5);
     Ok(())
 }
