@@ -1,6 +1,7 @@
 //! Answers of ranges by their rows: ends, and the power of the step.
 use ranges::range::Range;
 
+#[derive(Clone, Copy, PartialEq, Eq, Debug)]
 pub enum Operation {
     Add,
     Sub,

@@ -14,6 +14,7 @@ pub struct Accepted {
 }
 
 /// A kind of range.
+#[derive(Clone, Copy, PartialEq, Eq, Debug)]
 pub enum Kind {
     Plain,
     Raster,

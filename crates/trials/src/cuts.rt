@@ -1,6 +1,7 @@
 //! What cutters leave of boxes, worked out by a reference in another language.
 use crate::cases::Kind;
 
+#[derive(Clone, Copy, PartialEq, Eq, Debug)]
 pub enum CutterKind {
     ForwardBackward,
     /// Forward-backward and then forward-backward.

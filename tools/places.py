@@ -1,0 +1,108 @@
+#!/usr/bin/env python3
+"""Lists the places of crates/*/src where an older form may stand, and counts them.
+
+usage: python3 tools/places.py [FOLDER]        the repository in FOLDER, or here: all lists
+       python3 tools/places.py [FOLDER] -c     the counts alone
+
+Each list is found by the shape of the text, so it also holds places that are right as they are:
+docs/DESIGN-PASS.md says which.
+"""
+
+import glob
+import os
+import re
+import sys
+from collections import defaultdict
+
+FUNCTION = re.compile(r"\bfn (\w+)((?:<[^{;]*?>)?)\(([^{;]*?)\)\s*(?:->\s*([^{;]*?))?\s*((?:(?:requires|ensures)[^\n]*\n\s*)*)\{", re.S)
+WORD = re.compile(r"[A-Za-z_]\w*|\d[\w_]*|\S")
+KEPT = {"for", "in", "if", "else", "match", "let", "mut", "return", "fn", "as", "while", "Some", "None", "Ok", "Err", "self", "pub"}
+
+
+def functions(text):
+    """name, parameters, result, clauses, body and line of each function with a body"""
+    for m in FUNCTION.finditer(text):
+        depth, k = 1, m.end()
+        while depth and k < len(text):
+            depth += {"{": 1, "}": -1}.get(text[k], 0)
+            k += 1
+        yield m.group(1), m.group(3), (m.group(4) or "").strip(), m.group(5), text[m.end() : k - 1], text.count("\n", 0, m.start()) + 1
+
+
+def shape(body):
+    """the body with names and numbers taken away"""
+    return " ".join(w if w in KEPT or not re.match(r"\w", w) else "x" for w in WORD.findall(body))
+
+
+def lines(text, pattern):
+    for k, line in enumerate(text.split("\n"), 1):
+        if not line.lstrip().startswith("//") and re.search(pattern, line):
+            yield k, line.strip()
+
+
+def main(folder):
+    files = {p: open(os.path.join(folder, p)).read() for p in sorted(glob.glob("crates/*/src/**/*.rt", root_dir=folder, recursive=True))}
+    found = defaultdict(list)
+    like = defaultdict(list)
+    asks = defaultdict(list)
+    given = defaultdict(list)
+    for p, t in files.items():
+        at = lambda k, what: f"{p}:{k} {what}"
+        for k, line in lines(t, r"^(pub(\(crate\))? )?const [A-Z]+: u8\b|\bcode: u8\b"):
+            found["1 numbers for kinds"].append(at(k, line))
+        for k, line in lines(t, r"\bfn number\b|\bnumber: u32|\{ -1 \}"):
+            found["1 numbers for refusals or for nothing"].append(at(k, line))
+        for k, line in lines(t, r"^(pub(\(crate\))? )?enum "):
+            found["1 own enums"].append(at(k, line))
+        for k, line in lines(t, r"\bSome\((\w+)\) => \1,|\bOk\((\w+)\) => \2,|\bOk\((\w+)\) => Ok\(\3\),"):
+            found["1 a match that a method of Option or Result does"].append(at(k, line))
+        for name, params, result, clauses, body, k in functions(t):
+            if "&mut" in params and re.match(r"(bool|u\d+|usize|i\d+)$", result):
+                found["1 a flag or a number beside what a &mut leaves"].append(at(k, f"{name} -> {result}"))
+            if len(WORD.findall(body)) > 9:
+                like[shape(body)].append(at(k, name))
+            for c in re.findall(r"requires (?:\w+ )?\{(.*)\}", clauses):
+                for fact in re.split(r"×", c):
+                    asks[re.sub(r"[() ]", "", re.sub(r"\b\d+\b", "n", re.sub(r"\.(now|old|new)\b", "", fact)))].append(at(k, name))
+            names = [x.split(":")[0].strip() + ":" + x.split(":")[-1].strip() for x in params.split(",") if ":" in x and "self" not in x]
+            for i in range(len(names)):
+                for j in range(i + 1, len(names)):
+                    given[(names[i], names[j])].append(at(k, name))
+        for k, line in lines(t, r"\bfor \w+ in \(?\d[\w.]*\.\.|\bwhile \w+ <|\.iter\(\) \{|\.iter_mut\(\) \{"):
+            found["3 loops that count, or that ask for an iterator by hand"].append(at(k, line))
+        for k, line in lines(t, r"\bfn (word|decode|row_of|ends_of|ends|to_row|from_row|read_[ui]\d+)\b"):
+            found["4 conversions by hand"].append(at(k, line))
+        for k, line in lines(t, r"\bformat!\("):
+            found["4 printing by hand"].append(at(k, line))
+        for m in re.finditer(r"((?:#\[derive\(([^)]*)\)\]\n)?)(?:pub(?:\(crate\))? )?(?:struct|enum) (\w+)", t):
+            if "/trials/" not in p and "PartialEq" not in (m.group(2) or ""):
+                found["4 types without a derived equality"].append(at(t.count("\n", 0, m.start()) + 1, m.group(3)))
+        for k, line in lines(t, r"^\s*(pub(\(crate\))? )?(knobs|registers|goals|len): usize,$|^\s*pub \w+: \[[^;\]]+; \d+\],|\bknobs: \d,"):
+            found["6 arrays, and lengths beside them"].append(at(k, line))
+        for k, line in lines(t, r"\bmatch \*?(self|instruction|code|says|operation|case\.\w+)\b"):
+            found["7 switches on a kind"].append(at(k, line))
+    for same in like.values():
+        if len(same) > 1:
+            found["2 functions of one shape"].append(" = ".join(same))
+    for fact, where in asks.items():
+        if len(set(where)) > 2:
+            found["5 facts that three or more contracts ask for"].append(f"{fact}: " + ", ".join(where))
+    for pair, where in given.items():
+        if len(set(where)) > 4:
+            found["5 parameters that travel together in five or more functions"].append(f"{pair[0]}, {pair[1]}: {len(where)} functions")
+    answers = [p for p in glob.glob("crates/*/proofs/**/Answers.antt", root_dir=folder, recursive=True)]
+    texts = [open(os.path.join(folder, p)).read() for p in answers]
+    found["8 files of answers"] = answers
+    found["8 answered goals"] = [m for t in texts for m in re.findall(r"^pub (\S+) : goal\.", t, re.M)]
+    proofs = glob.glob("crates/*/proofs/**/*.antt", root_dir=folder, recursive=True)
+    found["8 lines of proofs"] = [l for p in proofs for l in open(os.path.join(folder, p)).read().split("\n")[:-1]]
+    return found
+
+
+if __name__ == "__main__":
+    rest = [a for a in sys.argv[1:] if a != "-c"]
+    for name, places in sorted(main(rest[0] if rest else ".").items()):
+        print(f"{len(places):5} {name}")
+        if "-c" not in sys.argv and not name.startswith("8"):
+            for place in places:
+                print("        " + place)
