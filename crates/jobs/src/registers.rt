@@ -53,6 +53,7 @@ pub fn evaluate<R: Range>(
     requires knobs { length (sides_of region.now) ≡ length (sides_of fields.now.start) }
     requires room { length (program_of fields.now) ≤ length rows.old }
     ensures told { result ≡ all_within (length (registers R.Range.kind (program_of fields.now) (sides_of region.now))) (length (program_of fields.now)) }
+    ensures few { length (registers R.Range.kind (program_of fields.now) (sides_of region.now)) ≤ length (program_of fields.now) }
     ensures filled { rows.new ≡ registers R.Range.kind (program_of fields.now) (sides_of region.now) ++ drop (length (registers R.Range.kind (program_of fields.now) (sides_of region.now))) rows.old }
     ensures holds { RowsHold R.Range.kind (program_of fields.now) (sides_of region.now) (length (registers R.Range.kind (program_of fields.now) (sides_of region.now))) rows.new }
 {

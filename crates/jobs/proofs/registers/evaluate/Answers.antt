@@ -2,6 +2,7 @@ use Rattle.std.proofs.Common.{◌<◌, ◌≤◌, ◌++◌, length, get_or, take
 use Rattle.boxes.specs.Views.{sides_of}
 use Rattle.ranges.specs.Kind.{Valid}
 use Rattle.jobs.specs.Registers.{no_instruction, gives, program_of, registers}
+use Rattle.jobs.proofs.Fills.{fill_upto}
 use Rattle.jobs.proofs.Holding.{region_sided, rows_hold}
 use Rattle.jobs.proofs.Turns.{turn_some, turn_none, turns_over, none_outside, some_outside, valid_more, rest_more, ends_with}
 use Rattle.jobs.proofs.Wiring.{region_wired}
@@ -38,6 +39,7 @@ returns-in_default g c =
     let filled = w.filled ∙ ap (λ j. registers m code box ++ drop j c.args.rows.now) w.count in
     record {
       told = told;
+      few = fill_upto (gives m box) code;
       filled = filled;
       holds = rows_hold m g.met.R.Range.lawful code box (region_sided c.args.region.now) (region_wired f c.args.region.now c.requires.knobs) _ rows _ refl filled;
     }
@@ -80,6 +82,7 @@ returns g c =
     let filled = w.filled ∙ ap (λ j. registers m code box ++ drop j c.args.rows.now) w.count in
     record {
       told = sym (none_outside _ (length code) all);
+      few = fill_upto (gives m box) code;
       filled = filled;
       holds = rows_hold m g.met.R.Range.lawful code box (region_sided c.args.region.now) (region_wired f c.args.region.now c.requires.knobs) _ rows _ refl filled;
     }
