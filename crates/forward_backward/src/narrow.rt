@@ -10,6 +10,9 @@ use ranges::range::Range;
 use ranges::row::Row;
 use ranges::spans::Span;
 
+// Rows stay a slice and a register a number: a struct that held the lent rows would owe its rule
+// again at each row that is written, and a number would still have to lie within them.
+
 /// The row of a register's range.
 pub(crate) fn row_at<R: Range>(rows: &[Row], register: usize) -> Row
     requires { register < length rows.now }

@@ -11,13 +11,15 @@ use ranges::row::Row;
 use ranges::spans::Span;
 use records::instruction::Instruction;
 
+// Each table here has a line for each kind of instruction. The kinds are closed, so a match stands,
+// and no rule is passed as a closure.
+
 /// The ends between which the first operand lies, by the result and both operands.
 fn first_ends(instruction: Instruction, z: Row, x: Row, y: Row) -> Option<Span>
     ensures { known_ends result ≡ first_ends instruction (ends z) (ends x) (ends y) }
 {
     match instruction {
-        Instruction::Const(_) => None,
-        Instruction::Knob(_) => None,
+        Instruction::Const(_) | Instruction::Knob(_) => None,
         Instruction::Add(_, _) => Some(of_sum(z, y)),
         Instruction::Sub(_, _) => Some(of_minuend(z, y)),
         Instruction::Mul(_, _) => of_factor(z, y),
@@ -32,14 +34,14 @@ fn second_ends(instruction: Instruction, z: Row, x: Row, y: Row) -> Option<Span>
     ensures { known_ends result ≡ second_ends instruction (ends z) (ends x) (ends y) }
 {
     match instruction {
-        Instruction::Const(_) => None,
-        Instruction::Knob(_) => None,
+        Instruction::Const(_)
+        | Instruction::Knob(_)
+        | Instruction::Sqr(_)
+        | Instruction::Shr(_, _) => None,
         Instruction::Add(_, _) => Some(of_sum(z, x)),
         Instruction::Sub(_, _) => Some(of_subtrahend(z, x)),
         Instruction::Mul(_, _) => of_factor(z, x),
-        Instruction::Sqr(_) => None,
         Instruction::Min(_, _) => Some(of_lesser(z, y, x)),
-        Instruction::Shr(_, _) => None,
     }
 }
 
@@ -76,13 +78,15 @@ pub(crate) fn narrow_operands<R: Narrowing>(
     ensures { Left (operands R.Range.kind R.Narrowing.keeper instruction j rows.old) result rows.new }
 {
     match instruction {
-        Instruction::Const(_) => Some(()),
-        Instruction::Knob(_) => Some(()),
-        Instruction::Add(a, b) => narrow_both::<R>(instruction, rows, j, a as usize, b as usize),
-        Instruction::Sub(a, b) => narrow_both::<R>(instruction, rows, j, a as usize, b as usize),
-        Instruction::Mul(a, b) => narrow_both::<R>(instruction, rows, j, a as usize, b as usize),
-        Instruction::Sqr(a) => narrow_both::<R>(instruction, rows, j, a as usize, a as usize),
-        Instruction::Min(a, b) => narrow_both::<R>(instruction, rows, j, a as usize, b as usize),
-        Instruction::Shr(a, _) => narrow_both::<R>(instruction, rows, j, a as usize, a as usize),
+        Instruction::Const(_) | Instruction::Knob(_) => Some(()),
+        Instruction::Add(a, b)
+        | Instruction::Sub(a, b)
+        | Instruction::Mul(a, b)
+        | Instruction::Min(a, b) => {
+            narrow_both::<R>(instruction, rows, j, a as usize, b as usize)
+        }
+        Instruction::Sqr(a) | Instruction::Shr(a, _) => {
+            narrow_both::<R>(instruction, rows, j, a as usize, a as usize)
+        }
     }
 }

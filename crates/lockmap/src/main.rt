@@ -14,6 +14,8 @@ use std::alloc::{AllocError, Global};
 use std::io;
 use std::io::Read;
 
+// A program has no library that the other program could use, so each has its own `main`.
+
 /// The most bytes of the input that are read.
 const MOST: u64 = 1024;
 

@@ -60,7 +60,8 @@ pub trait Range: Copy {
     fn apart(&self, span: Span) -> bool
         ensures { result ≡ kind.apart (row self.now) span.low span.high };
 
-    /// The row of the range, for scratch memory.
+    /// The row of the range, for scratch memory. This and the way back are methods, and no `From`,
+    /// since their clauses speak of the kind's own row.
     fn to_row(&self) -> Row
         ensures { result ≡ row self.now };
 

@@ -1,6 +1,9 @@
 ghost use Rattle.std.specs.Prelude.{◌≡◌, ◌+◌, ◌≤◌, length};
 ghost use Rattle.records.specs.Numbers.{nat16, nat32, int16, int32};
 
+// One line for each type of number, over that type's own method. A trait of the four would hold the
+// same four lines, each in an impl.
+
 /// The number in the two bytes at a place.
 pub(crate) fn read_u16(bytes: &[u8], at: usize) -> u16
     requires { at + 2 ≤ length bytes.now }

@@ -79,6 +79,7 @@ impl<T: Copy, const N: usize> Table<T, N> {
         ensures { MatchResult result (λ t. Made (F.post make) count (entries t)) (Failed (F.post make) count) }
     {
         let mut table = Table::new(blank);
+        // the number is what an entry is made of
         for k in 0..count {
             table.push(make(k)?);
         }

@@ -1,6 +1,7 @@
 use evaluation::says::Says;
 
-/// A record in hexadecimal that is refused, with the number and the place of the refusal.
+/// A record in hexadecimal that is refused, with the number and the place of the refusal: numbers, as
+/// they are printed, and as an independent program tells them.
 pub struct Refused {
     pub text: &'static str,
     pub number: u32,
@@ -13,7 +14,7 @@ pub struct Accepted {
     pub settings: u64,
 }
 
-/// A kind of range.
+/// A kind of range. A table of cases cannot hold a type, so a case names its kind.
 #[derive(Clone, Copy, PartialEq, Eq, Debug)]
 pub enum Kind {
     Plain,

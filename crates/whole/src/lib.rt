@@ -74,7 +74,8 @@ pub fn divide_up(n: i32, d: i32) -> i64
     }
 }
 
-/// The greatest number whose square is at most n, and -1 for an n below 0, which has none.
+/// The greatest number whose square is at most n, and -1 for an n below 0, which has none. So it
+/// never fails, and ends from a root up to -1 cross.
 pub fn root_down(n: i64) -> i64
     ensures value { result ≡ root_down n }
     ensures root { pos 0 ≤ℤ n → GreatestRoot n result }
