@@ -13,6 +13,7 @@ import os
 import re
 import sys
 from collections import defaultdict
+from difflib import SequenceMatcher
 
 FUNCTION = re.compile(r"\bfn (\w+)((?:<[^{;]*?>)?)\(([^{;]*?)\)\s*(?:->\s*([^{;]*?))?\s*((?:(?:requires|ensures)[^\n]*\n\s*)*)\{", re.S)
 WORD = re.compile(r"[A-Za-z_]\w*|\d[\w_]*|\S")
@@ -30,8 +31,8 @@ def functions(text):
 
 
 def shape(body):
-    """the body with names and numbers taken away"""
-    return " ".join(w if w in KEPT or not re.match(r"\w", w) else "x" for w in WORD.findall(body))
+    """the words of the body, with names and numbers taken away"""
+    return tuple(w if w in KEPT or not re.match(r"\w", w) else "x" for w in WORD.findall(body))
 
 
 def lines(text, pattern):
@@ -59,7 +60,7 @@ def main(folder):
         for name, params, result, clauses, body, k in functions(t):
             if "&mut" in params and re.match(r"(bool|u\d+|usize|i\d+)$", result):
                 found["1 a flag or a number beside what a &mut leaves"].append(at(k, f"{name} -> {result}"))
-            if len(WORD.findall(body)) > 9:
+            if len(WORD.findall(body)) > 9 and "#[test]" not in t[: t.find("fn " + name)][-12:]:
                 like[shape(body)].append(at(k, name))
             for c in re.findall(r"requires (?:\w+ )?\{(.*)\}", clauses):
                 for fact in re.split(r"×", c):
@@ -84,6 +85,13 @@ def main(folder):
     for same in like.values():
         if len(same) > 1:
             found["2 functions of one shape"].append(" = ".join(same))
+    shapes = sorted(like, key=len)
+    for i, a in enumerate(shapes):
+        for b in shapes[i + 1 :]:
+            if len(b) > 1.3 * len(a):
+                break
+            if len(a) > 19 and SequenceMatcher(None, a, b, False).ratio() > 0.85:
+                found["2 functions of nearly one shape"].append(f"{like[a][0]} ~ {like[b][0]}")
     for fact, where in asks.items():
         if len(set(where)) > 2:
             found["5 facts that three or more contracts ask for"].append(f"{fact}: " + ", ".join(where))
