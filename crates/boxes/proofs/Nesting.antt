@@ -1,9 +1,10 @@
 -- A box lies inside another exactly where each of its sides lies within the other's.
-use Rattle.std.proofs.Common.{◌≡◌, ℕ, zero, suc, ◌<◌, Bool, true, false, List, [], ◌∷◌, map, length, get_or, ℤ, pos, ◌≤ℤ◌, Decides, sym, refl, ap, subst, arith, ◌&&◌}
+use Rattle.std.proofs.Common.{◌≡◌, ℕ, zero, suc, ◌<◌, Bool, true, false, List, [], ◌∷◌, map, length, get_or, ℤ, pos, ◌≤ℤ◌, Decides, sym, refl, ap, subst, arith}
 use lib.Signed.{le_z}
+use Rattle.std.proofs.Math.Bool.{and-false}
 use Rattle.std.proofs.lemmas.List.{get_or-map, length-map}
 use Rattle.std.proofs.lemmas.Int.{ints}
-use Rattle.std.proofs.lemmas.Bool.{and_parts, and_from, false≢true}
+use Rattle.std.proofs.lemmas.Bool.{and_parts, and_from, false≢true, false_from_ne_true}
 use Rattle.std.specs.Bool.{MatchBool}
 use Rattle.std.specs.List.{AllWithin, HoldsAt, zip}
 use Rattle.whole.proofs.Products.{is_le, le_in}
@@ -59,11 +60,7 @@ nested_out (e ∷ box) (f ∷ other) r =
     and_from _ _ (covered_out f e (r.sides 0 (omega arith))) (nested_out box other (record { knobs = omega arith; sides = λ n h. r.sides (suc n) (omega arith) }))
 
 pub nested_not : (box other : List Ends) → (Nested box other → ⊥) → nested box other ≡ false
-nested_not box other n = go (nested box other) refl
-  where
-    go : (b : Bool) → nested box other ≡ b → b ≡ false
-    go true e = absurd (n (nested_in box other e))
-    go false e = refl
+nested_not box other n = false_from_ne_true (nested box other) (λ e. n (nested_in box other e))
 
 -- the settings of all low ends and of all high ends
 module _ (box : List Ends) (o : InOrder box) where
@@ -128,10 +125,6 @@ nested_decides box other o = (λ t. nested_part box other (nested_in box other t
 abbrev pub PairCovers : Bool → Side × Side → Type 0
 PairCovers t p = covers (ends_of p.1) (ends_of p.0) ≡ t
 
-and_false : (a : Bool) → false ≡ (a && false)
-and_false true = refl
-and_false false = refl
-
 -- what a test of the sides, pair by pair, says of two boxes with as many knobs
 pub pairs_nested : (xs ys : List Side) (r : Bool) → length xs ≡ length ys
     → MatchBool r (AllWithin (PairCovers true) (zip xs ys) 0 (length (zip xs ys))) ((k : ℕ) × (k < length (zip xs ys)) × HoldsAt (PairCovers false) (zip xs ys) k)
@@ -145,4 +138,4 @@ pairs_nested (x ∷ xs) (y ∷ ys) true e m =
     let h : covers (ends_of y) (ends_of x) ≡ true = m 0 (x, y) (omega arith) (omega arith) in
     rw h (pairs_nested xs ys true (omega arith) (λ k d l u. m (suc k) d (omega arith) (omega arith)))
 pairs_nested (x ∷ xs) (y ∷ ys) false e (zero, b, h) = let t : covers (ends_of y) (ends_of x) ≡ false = h (x, y) in rw t refl
-pairs_nested (x ∷ xs) (y ∷ ys) false e (suc k, b, h) = rw (← pairs_nested xs ys false (omega arith) (k, omega arith, h)) (and_false _)
+pairs_nested (x ∷ xs) (y ∷ ys) false e (suc k, b, h) = rw (← pairs_nested xs ys false (omega arith) (k, omega arith, h)) (sym (and-false _))
