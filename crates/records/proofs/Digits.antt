@@ -20,10 +20,7 @@ split32 a b c d ha hb hc hd =
     let e3 : (a * 16777216 + b * 65536 + c * 256 + d) % 256 ≡ d = omega arith in
     cc
 
--- the number that is made of a number's bytes is that
-pub join16 : (n : ℕ) → n / 256 * 256 + n % 256 ≡ n
-join16 n = omega arith
-
+-- the number that is made of a number's four bytes is that
 pub join32 : (n : ℕ) → n / 16777216 * 16777216 + n / 65536 % 256 * 65536 + n / 256 % 256 * 256 + n % 256 ≡ n
 join32 n = omega arith
 

@@ -1,5 +1,5 @@
 -- A table that is made entry by entry holds what is read, up to the first fault.
-use Rattle.std.proofs.Common.{◌≡◌, ℕ, ◌<◌, List, map, length, get_or, Ok, Err, Option, Result, sym, ◌∙◌, refl, subst, arith}
+use Rattle.std.proofs.Common.{◌≡◌, ℕ, ◌<◌, List, map, length, get_or, Ok, Err, Option, Result, sym, ◌∙◌, refl, arith}
 use Rattle.std.proofs.lemmas.List.{get_or-map, length-map, map-id}
 use Rattle.std.specs.Result.{MatchResult}
 use Rattle.tables.specs.Tables.{Failed, Made, entries}
@@ -25,7 +25,7 @@ module _ {T V : Type 0} (d : T) (shown : T → V) (fault : ℕ → Option Refusa
       let same : listed item (length (map shown xs)) ≡ map shown xs = listed_is item (map shown xs) (shown d) (λ k h.
       let l : k < n = omega arith in
       sym (get_or-map shown xs k d (shown d) (omega (arith, m.long)) ∙ value_of (fault k) (item k) (shown (get_or xs k d)) (each k l))) in
-      let all = subst (λ (i : ℕ). listed item i ≡ map shown xs) long same in
+      let all = rw long at same in
       rw (clean, all)
 
   failed : (e : Refusal) → Failed makes n e → Err e ≡ unless (first_of fault n) (listed item n)

@@ -2,6 +2,7 @@
 use Rattle.std.proofs.Common.{◌≡◌, ℕ, ◌+◌, ◌≤◌, true, not, ◌&&◌, ltb, leb, List, [], ◌∷◌, ◌++◌, drop, ℤ, pos, negsuc, neg_ℤ, None, sym, refl, ap, ◌∙◌, arith, w16, w32, to_z, of_z}
 use Rattle.std.proofs.lemmas.List.{get_or-drop}
 use Rattle.std.proofs.lemmas.Int.{ints, to_z-of_z}
+use Rattle.std.proofs.lemmas.Nat.{div-add-mod'}
 use Rattle.std.proofs.lemmas.Bool.{and_parts, not_from_true, ltb-true, le-ltb, lt-leb}
 use Rattle.boxes.specs.Boxes.{Ends, between, good_side}
 use Rattle.boxes.proofs.Goods.{between_in, good_in}
@@ -16,7 +17,7 @@ use Rattle.records.specs.Entries.{decoded, a_values, b_values, c_reach, reached,
 use Rattle.records.specs.Encoding.{row, encode_side, encode_instruction, encode_target}
 use Rattle.records.proofs.Checks.{one_clean, two_clean}
 use Rattle.records.proofs.Goods.{Row}
-use Rattle.records.proofs.Digits.{fits16, fits32, join16, join32}
+use Rattle.records.proofs.Digits.{fits16, fits32, join32}
 
 -- what is read at a place where known bytes stand
 module _ (s : List ℕ) (p : ℕ) (y : List ℕ) (d : drop p s ≡ y) where
@@ -24,18 +25,10 @@ module _ (s : List ℕ) (p : ℕ) (y : List ℕ) (d : drop p s ≡ y) where
   byte_there j q e = ap (byte s) e ∙ (sym (get_or-drop p s j 0) ∙ ap (λ (l : List ℕ). byte l j) d)
 
   nat16_there : (j q : ℕ) → q ≡ p + j → nat16 s q ≡ nat16 y j
-  nat16_there j q e =
-      let e0 = byte_there j q e in
-      let e1 = byte_there (j + 1) (q + 1) (omega arith) in
-      rw (e0, e1)
+  nat16_there j q e = rw (byte_there j q e, byte_there (j + 1) (q + 1) (omega arith))
 
   nat32_there : (j q : ℕ) → q ≡ p + j → nat32 s q ≡ nat32 y j
-  nat32_there j q e =
-      let e0 = byte_there j q e in
-      let e1 = byte_there (j + 1) (q + 1) (omega arith) in
-      let e2 = byte_there (j + 2) (q + 2) (omega arith) in
-      let e3 = byte_there (j + 3) (q + 3) (omega arith) in
-      rw (e0, e1, e2, e3)
+  nat32_there j q e = rw (byte_there j q e, byte_there (j + 1) (q + 1) (omega arith), byte_there (j + 2) (q + 2) (omega arith), byte_there (j + 3) (q + 3) (omega arith))
 
 -- a side whose ends are those of a good one
 side_clean : (p : ℕ) (l h : ℤ) (x : Ends) → l ≡ x.lo → h ≡ x.hi → good_side x ≡ true
@@ -82,8 +75,8 @@ module _ (s : List ℕ) (p : ℕ) (r : List ℕ) where
       let lf = fits16 x.lo o.above (omega (arith, ints, o.order, o.below)) in
       let hf = fits16 x.hi (omega (arith, ints, o.above, o.order)) o.below in
       side_clean p (int16 s p) (int16 s (p + 2)) x
-      (ap (to_z w16) (nat16_there s p (encode_side x ++ r) d 0 p (omega arith) ∙ join16 (of_z w16 x.lo)) ∙ to_z-of_z w16 x.lo lf)
-      (ap (to_z w16) (nat16_there s p (encode_side x ++ r) d 2 (p + 2) refl ∙ join16 (of_z w16 x.hi)) ∙ to_z-of_z w16 x.hi hf)
+      (ap (to_z w16) (nat16_there s p (encode_side x ++ r) d 0 p (omega arith) ∙ div-add-mod' (of_z w16 x.lo) 256) ∙ to_z-of_z w16 x.lo lf)
+      (ap (to_z w16) (nat16_there s p (encode_side x ++ r) d 2 (p + 2) refl ∙ div-add-mod' (of_z w16 x.hi) 256) ∙ to_z-of_z w16 x.hi hf)
       g
 
   pub target_given : (registers : ℕ) (x : Target) → good_target registers x ≡ true → drop p s ≡ encode_target x ++ r → (target_at s p ≡ x) × (target_fault s registers p ≡ None)
