@@ -1,5 +1,6 @@
 -- The count of a box is the number of its settings.
 use Rattle.std.proofs.Common.{◌≡◌, ℕ, zero, suc, ◌+◌, ◌*◌, ◌/◌, ◌%◌, ◌^◌, ◌<◌, ◌≤◌, List, [], ◌∷◌, ◌++◌, map, length, get_or, take, ℤ, pos, ◌+ℤ◌, ◌-ℤ◌, nat_abs, ◌≤ℤ◌, sym, refl, ap, ◌∙◌, mul_assoc, div-lt_iff_lt-mul, mul-le-mul, arith, pow_mono}
+use Rattle.std.proofs.Math.Nat.{mul-pos}
 use Rattle.std.proofs.lemmas.Nat.{mod_below, pow-add, mul-add-lt, div-mul-add, mod-mul-add, div-add-mod'}
 use Rattle.std.proofs.lemmas.List.{get_or-map, length-map, map_more, nil_from_length}
 use Rattle.std.proofs.lemmas.Int.{ints}
@@ -29,17 +30,14 @@ in_more e box x s l h i = record { knobs = ap suc i.knobs; from = low; to = high
 
 in_less : (e : Ends) (box : List Ends) (x : ℤ) (s : List ℤ) → In (e ∷ box) (x ∷ s) → In box s
 in_less e box x s i = record {
-  knobs = let k = i.knobs in omega arith;
+  knobs = omega arith;
   from = λ n k. i.from (suc n) (omega arith);
   to = λ n k. i.to (suc n) (omega arith);
 }
 
 pub count_pos : (box : List Ends) → 0 < count box
 count_pos [] = omega arith
-count_pos (e ∷ box) =
-    let w : 1 ≤ width e = omega arith in
-    let k = mul-le-mul w (count_pos box) in
-    omega arith
+count_pos (e ∷ box) = mul-pos (omega arith) (count_pos box)
 
 -- the settings of a box with one side more: for each number of that side, those of the box
 module _ (e : Ends) (box : List Ends) (o : e.lo ≤ℤ e.hi) (r : Numbered (count box) (In box)) where
@@ -56,7 +54,7 @@ module _ (e : Ends) (box : List Ends) (o : e.lo ≤ℤ e.hi) (r : Numbered (coun
 
   nth_each : (x : List ℤ) → In (e ∷ box) x → (i : ℕ) × (i < width e * count box) × (nth i ≡ x)
   unfolding nth
-  nth_each [] i = let k = i.knobs in absurd (omega arith)
+  nth_each [] i = absurd (omega arith)
   nth_each (x ∷ s) i =
       let m = count box in
       let t = r.each s (in_less e box x s i) in

@@ -53,10 +53,9 @@ nested_in (e ∷ box) (f ∷ other) t =
 pub nested_out : (box other : List Ends) → Nested box other → nested box other ≡ true
 unfolding nested
 nested_out [] [] r = refl
-nested_out [] (f ∷ other) r = let k = r.knobs in absurd (omega arith)
-nested_out (e ∷ box) [] r = let k = r.knobs in absurd (omega arith)
+nested_out [] (f ∷ other) r = absurd (omega arith)
+nested_out (e ∷ box) [] r = absurd (omega arith)
 nested_out (e ∷ box) (f ∷ other) r =
-    let k = r.knobs in
     and_from _ _ (covered_out f e (r.sides 0 (omega arith))) (nested_out box other (record { knobs = omega arith; sides = λ n h. r.sides (suc n) (omega arith) }))
 
 pub nested_not : (box other : List Ends) → (Nested box other → ⊥) → nested box other ≡ false
@@ -79,15 +78,15 @@ module _ (box : List Ends) (o : InOrder box) where
   pub lows_in : In box lows
   lows_in = record {
     knobs = length-map box (λ e. e.lo);
-    from = λ n h. let e = low_at n h in omega (arith, ints);
-    to = λ n h. let e = low_at n h in let k = o n h in omega (arith, ints);
+    from = λ n h. omega (arith, ints, low_at n h);
+    to = λ n h. omega (arith, ints, low_at n h, o n h);
   }
 
   pub highs_in : In box highs
   highs_in = record {
     knobs = length-map box (λ e. e.hi);
-    from = λ n h. let e = high_at n h in let k = o n h in omega (arith, ints);
-    to = λ n h. let e = high_at n h in omega (arith, ints);
+    from = λ n h. omega (arith, ints, high_at n h, o n h);
+    to = λ n h. omega (arith, ints, high_at n h);
   }
 
   -- a box whose settings are all the other's has its sides within the other's
@@ -95,7 +94,6 @@ module _ (box : List Ends) (o : InOrder box) where
   part_nested other p =
       let a = p lows lows_in in
       let b = p highs highs_in in
-      let k = a.knobs in
       let l = length-map box (λ e. e.lo) in
       record {
         knobs = omega arith;
@@ -109,14 +107,11 @@ module _ (box : List Ends) (o : InOrder box) where
 
 -- and the other way round
 pub nested_part : (box other : List Ends) → Nested box other → Part box other
-nested_part box other r s i =
-    let k = r.knobs in
-    let l = i.knobs in
-    record {
-      knobs = omega arith;
-      from = λ n h. let c = r.sides n (omega arith) in let f = i.from n (omega arith) in omega (arith, ints);
-      to = λ n h. let c = r.sides n (omega arith) in let t = i.to n (omega arith) in omega (arith, ints);
-    }
+nested_part box other r s i = record {
+  knobs = omega arith;
+  from = λ n h. let c = r.sides n (omega arith) in let f = i.from n (omega arith) in omega (arith, ints);
+  to = λ n h. let c = r.sides n (omega arith) in let t = i.to n (omega arith) in omega (arith, ints);
+}
 
 pub nested_decides : (box other : List Ends) → InOrder box → Decides (nested box other) (Part box other)
 nested_decides box other o = (λ t. nested_part box other (nested_in box other t), λ p. nested_out box other (part_nested box o other p))

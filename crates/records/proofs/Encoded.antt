@@ -1,5 +1,5 @@
 -- A byte string that is accepted is the record of what was read, which keeps every rule.
-use Rattle.std.proofs.Common.{◌≡◌, ℕ, ◌+◌, ◌*◌, ◌≤◌, not, eqb, ltb, List, [], ◌∷◌, ◌++◌, length, drop, None, Ok, sym, refl, ap, ◌∙◌, subst, append-nil, arith, length-drop}
+use Rattle.std.proofs.Common.{◌≡◌, ℕ, ◌+◌, ◌*◌, ◌≤◌, not, eqb, ltb, List, [], ◌∷◌, ◌++◌, length, drop, None, Ok, sym, refl, ap, ◌∙◌, append-nil, arith, length-drop}
 use Rattle.std.proofs.lemmas.List.FromFn.{length-map-range_with_len}
 use Rattle.std.proofs.lemmas.List.{drop_all}
 use Rattle.std.proofs.lemmas.Bool.{eqb-true, not-false}
@@ -127,4 +127,4 @@ accepted_is_encoding s c b e =
     let v = value_of (fault s) (content_in s (counts_in s)) c (sym e) in
     let l = none_left (layout_fault s) (field_fault s (counts_in s)) n in
     let f = none_right (layout_fault s) (field_fault s (counts_in s)) n in
-    subst (λ (x : Content). RecordOf Keeps x s) (sym v) (record_of s b l f)
+    rw v (record_of s b l f)

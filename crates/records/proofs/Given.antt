@@ -36,7 +36,7 @@ side_clean : (p : ℕ) (l h : ℤ) (x : Ends) → l ≡ x.lo → h ≡ x.hi → 
     × (first (when (not (between (negsuc 16383) l (pos 16383))) BadField p ∷ when (not (between l h (pos 16383))) BadField (p + 2) ∷ []) ≡ None)
 side_clean p l h x el eh g =
     let b = and_parts (between (negsuc 16383) x.lo (pos 16383)) (between x.lo x.hi (pos 16383)) g in
-    rw (el, eh) (refl, two_clean (between (negsuc 16383) x.lo (pos 16383)) (between x.lo x.hi (pos 16383)) BadField p (p + 2) b.0 b.1)
+    rw (el, eh) (refl, two_clean _ _ BadField p (p + 2) b.0 b.1)
 
 -- a target whose fields are those of a good one
 target_clean : (registers p n : ℕ) (l h : ℤ) (x : Target) → n ≡ x.register → l ≡ x.low → h ≡ x.high → good_target registers x ≡ true
@@ -48,7 +48,7 @@ target_clean registers p n l h x en el eh g =
     rw (en, el, eh) (
       refl,
       one_clean (leb registers x.register) BadField p _ (lt-leb registers x.register (ltb-true _ _ a.0))
-          (two_clean (bounded x.low) (between x.low x.high (pos bound)) BadField (p + 1) (p + 5) b.0 b.1),
+          (two_clean _ _ BadField (p + 1) (p + 5) b.0 b.1),
     )
 
 -- an instruction whose fields keep the rules
@@ -75,8 +75,8 @@ module _ (s : List ℕ) (p : ℕ) (r : List ℕ) where
       let lf = fits16 x.lo o.above (omega (arith, ints, o.order, o.below)) in
       let hf = fits16 x.hi (omega (arith, ints, o.above, o.order)) o.below in
       side_clean p (int16 s p) (int16 s (p + 2)) x
-      (ap (to_z w16) (nat16_there s p (encode_side x ++ r) d 0 p (omega arith) ∙ div-add-mod' (of_z w16 x.lo) 256) ∙ to_z-of_z w16 x.lo lf)
-      (ap (to_z w16) (nat16_there s p (encode_side x ++ r) d 2 (p + 2) refl ∙ div-add-mod' (of_z w16 x.hi) 256) ∙ to_z-of_z w16 x.hi hf)
+      (rw (nat16_there s p (encode_side x ++ r) d 0 p (omega arith), div-add-mod' (of_z w16 x.lo) 256) (to_z-of_z w16 x.lo lf))
+      (rw (nat16_there s p (encode_side x ++ r) d 2 (p + 2) refl, div-add-mod' (of_z w16 x.hi) 256) (to_z-of_z w16 x.hi hf))
       g
 
   pub target_given : (registers : ℕ) (x : Target) → good_target registers x ≡ true → drop p s ≡ encode_target x ++ r → (target_at s p ≡ x) × (target_fault s registers p ≡ None)
@@ -97,11 +97,12 @@ module _ (s : List ℕ) (p : ℕ) (r : List ℕ) where
     row_given : (code a b n : ℕ) (c : ℤ) → to_z w32 n ≡ c → Row code a b c knobs k → drop p s ≡ row code a b n ++ r
         → (instruction_at s p ≡ decoded code a b c) × (instruction_fault s knobs k p ≡ None)
     row_given code a b n c e g d =
-        let e0 : byte s p ≡ code = byte_there s p (row code a b n ++ r) d 0 p (omega arith) in
-        let e1 : byte s (p + 1) ≡ a = byte_there s p (row code a b n ++ r) d 1 (p + 1) refl in
-        let e2 : byte s (p + 2) ≡ b = byte_there s p (row code a b n ++ r) d 2 (p + 2) refl in
-        let e3 : int32 s (p + 3) ≡ c = ap (to_z w32) (nat32_there s p (row code a b n ++ r) d 3 (p + 3) refl ∙ join32 n) ∙ e in
-        row_clean p code a b c knobs k (byte s p) (byte s (p + 1)) (byte s (p + 2)) (int32 s (p + 3)) e0 e1 e2 e3 g
+        row_clean p code a b c knobs k (byte s p) (byte s (p + 1)) (byte s (p + 2)) (int32 s (p + 3))
+        (byte_there s p (row code a b n ++ r) d 0 p (omega arith))
+        (byte_there s p (row code a b n ++ r) d 1 (p + 1) refl)
+        (byte_there s p (row code a b n ++ r) d 2 (p + 2) refl)
+        (ap (to_z w32) (nat32_there s p (row code a b n ++ r) d 3 (p + 3) refl ∙ join32 n) ∙ e)
+        g
 
     binary : (code a b : ℕ) → code ≤ 7 → a_values code knobs k ≡ k → b_values code k ≡ k → c_reach code ≡ 0 → (ltb a k && ltb b k) ≡ true → Row code a b (pos 0) knobs k
     binary code a b h ea eb ec g =

@@ -96,10 +96,7 @@ pub within_one : (X : Type 0) (why : Reason) (p lo hi : ℕ) → lo ≤ hi → (
 within_one X why p lo hi s h = record { span = s; spot = spot }
   where
     spot : (e : Refusal) → One X why p e → Spot (stage why) lo hi e
-    spot e x =
-        let b = h x.0 in
-        let q : e.place ≡ p = ap (λ (r : Refusal). r.place) x.1 in
-        record { staged = one_stage X why p e x; from = omega (arith, b.0); to = omega (arith, b.1) }
+    spot e x = rw x.1 (record { staged = refl; from = (h x.0).0; to = (h x.0).1 })
 
 pub ranked_when : (b : Bool) (X : Type 0) (why : Reason) (p lo hi : ℕ) → lo ≤ hi → (X → (lo ≤ p) × (p ≤ hi)) → Decides b X → Ranked (stage why) lo hi (One X why p) (when b why p)
 ranked_when b X why p lo hi s h t = record { within = within_one X why p lo hi s h; least = least_when b X why p t }

@@ -1,5 +1,5 @@
 -- What was read without a fault is written as the bytes that it was read from: numbers, entries, tables.
-use Rattle.std.proofs.Common.{◌≡◌, ℕ, zero, suc, ◌+◌, ◌*◌, ◌^◌, ◌<◌, ◌≤◌, List, [], ◌∷◌, ◌++◌, length, drop, None, sym, refl, ap, ◌∙◌, append_assoc, add_assoc, mul-suc, arith, w16, w32, to_z, of_z}
+use Rattle.std.proofs.Common.{◌≡◌, ℕ, zero, suc, ◌+◌, ◌*◌, ◌^◌, ◌<◌, ◌≤◌, List, [], ◌∷◌, ◌++◌, length, drop, None, sym, refl, ap, ◌∙◌, append_assoc, add_assoc, mul-suc, arith, w16, w32, to_z}
 use Rattle.std.proofs.lemmas.List.{drop_more, flat_map_more}
 use Rattle.std.proofs.lemmas.Int.{of_z-to_z}
 use Rattle.std.specs.List.{flat_map}
@@ -15,21 +15,18 @@ use Rattle.records.proofs.Runs.{listed_more}
 -- an instruction whose fields keep the rules is written as those fields
 row_back : (code a b n : ℕ) (knobs k : ℕ) → n < 2 ^ 32 → Row code a b (to_z w32 n) knobs k → encode_instruction (decoded code a b (to_z w32 n)) ≡ row code a b n
 row_back zero a b n knobs k h g =
-    let e : of_z w32 (to_z w32 n) ≡ n = of_z-to_z w32 n h in
     let ea : a ≡ 0 = omega (arith, g.first_operand) in
     let eb : b ≡ 0 = omega (arith, g.second_operand) in
-    rw (e, ea, eb)
+    rw (of_z-to_z w32 n h, ea, eb)
 row_back (suc zero) a b n knobs k h g =
-    let e = zero_bits n h g.number in
     let eb : b ≡ 0 = omega (arith, g.second_operand) in
-    rw (e, eb)
+    rw (zero_bits n h g.number, eb)
 row_back (suc (suc zero)) a b n knobs k h g = rw (zero_bits n h g.number)
 row_back (suc (suc (suc zero))) a b n knobs k h g = rw (zero_bits n h g.number)
 row_back (suc (suc (suc (suc zero)))) a b n knobs k h g = rw (zero_bits n h g.number)
 row_back (suc (suc (suc (suc (suc zero))))) a b n knobs k h g =
-    let e = zero_bits n h g.number in
     let eb : b ≡ 0 = omega (arith, g.second_operand) in
-    rw (e, eb)
+    rw (zero_bits n h g.number, eb)
 row_back (suc (suc (suc (suc (suc (suc zero)))))) a b n knobs k h g = rw (zero_bits n h g.number)
 row_back (suc (suc (suc (suc (suc (suc (suc zero))))))) a b n knobs k h g = rw (zero_bits n h g.number)
 row_back (suc (suc (suc (suc (suc (suc (suc (suc m)))))))) a b n knobs k h g = absurd (omega (arith, g.known))
@@ -50,21 +47,18 @@ module _ (s : List ℕ) (b : Bytes s) where
 
   drop2 : (at : ℕ) → at + 2 ≤ length s → drop at s ≡ byte s at ∷ byte s (at + 1) ∷ drop (at + 2) s
   drop2 at h =
-      let e = drop1 at (omega arith) in
       let f = simp add_assoc at (drop1 (at + 1) (omega arith)) in
-      cc
+      cc (drop1 at (omega arith))
 
   drop3 : (at : ℕ) → at + 3 ≤ length s → drop at s ≡ byte s at ∷ byte s (at + 1) ∷ byte s (at + 2) ∷ drop (at + 3) s
   drop3 at h =
-      let e = drop2 at (omega arith) in
       let f = simp add_assoc at (drop1 (at + 2) (omega arith)) in
-      cc
+      cc (drop2 at (omega arith))
 
   drop4 : (at : ℕ) → at + 4 ≤ length s → drop at s ≡ byte s at ∷ byte s (at + 1) ∷ byte s (at + 2) ∷ byte s (at + 3) ∷ drop (at + 4) s
   drop4 at h =
-      let e = drop2 at (omega arith) in
       let f = simp add_assoc at (drop2 (at + 2) (omega arith)) in
-      cc
+      cc (drop2 at (omega arith))
 
   -- a number and what follows it
   module _ (at end : ℕ) where
