@@ -104,21 +104,19 @@ module _ (s : List ℕ) (p : ℕ) (r : List ℕ) where
         (ap (to_z w32) (nat32_there s p (row code a b n ++ r) d 3 (p + 3) refl ∙ join32 n) ∙ e)
         g
 
-    binary : (code a b : ℕ) → code ≤ 7 → a_values code knobs k ≡ k → b_values code k ≡ k → c_reach code ≡ 0 → (ltb a k && ltb b k) ≡ true → Row code a b (pos 0) knobs k
-    binary code a b h ea eb ec g =
-        let w = and_parts (ltb a k) (ltb b k) g in
-        record { known = h; first_operand = rw ea (ltb-true a k w.0); second_operand = rw eb (ltb-true b k w.1); number = rw ec }
+    binary : (code a b n : ℕ) → code ≤ 7 → a_values code knobs k ≡ k → b_values code k ≡ n → c_reach code ≡ 0 → (ltb a k && ltb b n) ≡ true → Row code a b (pos 0) knobs k
+    binary code a b n h ea eb ec g =
+        let w = and_parts (ltb a k) (ltb b n) g in
+        record { known = h; first_operand = rw ea (ltb-true a k w.0); second_operand = rw eb (ltb-true b n w.1); number = rw ec }
 
     pub instruction_given : (x : Instruction) → good_instruction knobs k x ≡ true → drop p s ≡ encode_instruction x ++ r → (instruction_at s p ≡ x) × (instruction_fault s knobs k p ≡ None)
     instruction_given (Const c) g d =
         let l = between_in (neg_ℤ (pos bound)) c (pos bound) g in
         row_given 0 0 0 (of_z w32 c) c (to_z-of_z w32 c (fits32 c l.low l.high)) (record { known = omega arith; first_operand = omega arith; second_operand = omega arith; number = g }) d
     instruction_given (Knob a) g d = row_given 1 a 0 0 (pos 0) refl (record { known = omega arith; first_operand = ltb-true a knobs g; second_operand = omega arith; number = refl }) d
-    instruction_given (Add a b) g d = row_given 2 a b 0 (pos 0) refl (binary 2 a b (omega arith) refl refl refl g) d
-    instruction_given (Sub a b) g d = row_given 3 a b 0 (pos 0) refl (binary 3 a b (omega arith) refl refl refl g) d
-    instruction_given (Mul a b) g d = row_given 4 a b 0 (pos 0) refl (binary 4 a b (omega arith) refl refl refl g) d
+    instruction_given (Add a b) g d = row_given 2 a b 0 (pos 0) refl (binary 2 a b k (omega arith) refl refl refl g) d
+    instruction_given (Sub a b) g d = row_given 3 a b 0 (pos 0) refl (binary 3 a b k (omega arith) refl refl refl g) d
+    instruction_given (Mul a b) g d = row_given 4 a b 0 (pos 0) refl (binary 4 a b k (omega arith) refl refl refl g) d
     instruction_given (Sqr a) g d = row_given 5 a 0 0 (pos 0) refl (record { known = omega arith; first_operand = ltb-true a k g; second_operand = omega arith; number = refl }) d
-    instruction_given (Min a b) g d = row_given 6 a b 0 (pos 0) refl (binary 6 a b (omega arith) refl refl refl g) d
-    instruction_given (Shr a b) g d =
-        let w = and_parts (ltb a k) (ltb b 31) g in
-        row_given 7 a b 0 (pos 0) refl (record { known = omega arith; first_operand = ltb-true a k w.0; second_operand = ltb-true b 31 w.1; number = refl }) d
+    instruction_given (Min a b) g d = row_given 6 a b 0 (pos 0) refl (binary 6 a b k (omega arith) refl refl refl g) d
+    instruction_given (Shr a b) g d = row_given 7 a b 0 (pos 0) refl (binary 7 a b 31 (omega arith) refl refl refl g) d
