@@ -93,17 +93,13 @@ count_push [] e = omega arith
 count_push (x ∷ box) e = ap (λ n. width x * n) (count_push box e) ∙ sym (mul_assoc (width x) (count box) (width e))
 
 pub sides_in_order : (sides : List Side) → InOrder (map ends_of sides)
-sides_in_order sides n h =
-    let k : n < length sides = omega (arith, length-map sides ends_of) in
-    rw (get_or-map ends_of sides n zero_side nought k) (get_or sides n zero_side).order
+sides_in_order sides n h = rw (get_or-map ends_of sides n zero_side nought (omega (arith, length-map sides ends_of))) (get_or sides n zero_side).order
 
 -- a product of counts that keeps within the powers of 2^15
 pub product_below : (n w k : ℕ) → n ≤ 2 ^ (15 * k) → w ≤ 32768 → n * w ≤ 2 ^ (15 * (k + 1))
 product_below n w k h l =
-    let m = mul-le-mul h l in
     let e : 15 * (k + 1) ≡ 15 * k + 15 = omega arith in
-    let p : 2 ^ (15 * (k + 1)) ≡ 2 ^ (15 * k) * 32768 = ap (λ n. 2 ^ n) e ∙ pow-add 2 (15 * k) 15 in
-    rw p m
+    rw (e, pow-add 2 (15 * k) 15) (mul-le-mul h l)
 
 pub power_below : (k : ℕ) → k ≤ 4 → 2 ^ (15 * k) ≤ 2 ^ 60
 power_below k h = pow_mono {i = 15 * k} {j = 60} (omega arith)
@@ -111,8 +107,4 @@ power_below k h = pow_mono {i = 15 * k} {j = 60} (omega arith)
 -- the count of the first sides, with one more
 pub count_more : (sides : List Side) (k n : ℕ) (s : Side) → k < length sides → s ≡ get_or sides k s → n ≡ count (map ends_of (take k sides)) →
     n * width (ends_of s) ≡ count (map ends_of (take (k + 1) sides))
-count_more sides k n s h e q =
-    let m = map_more ends_of sides k s h in
-    let p = count_push (map ends_of (take k sides)) (ends_of (get_or sides k s)) in
-    let r : n * width (ends_of s) ≡ count (map ends_of (take k sides)) * width (ends_of (get_or sides k s)) = cc in
-    r ∙ sym p ∙ ap count (sym m)
+count_more sides k n s h e q = rw (q, map_more ends_of sides k s h, count_push, ← e)
