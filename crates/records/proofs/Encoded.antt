@@ -124,7 +124,4 @@ module _ (s : List ℕ) (b : Bytes s) (le : layout_fault s ≡ None) (fe : field
 pub accepted_is_encoding : (s : List ℕ) (c : Content) → Bytes s → verdict s ≡ Ok c → RecordOf Keeps c s
 accepted_is_encoding s c b e =
     let n = none_of (fault s) (content_in s (counts_in s)) c (sym e) in
-    let v = value_of (fault s) (content_in s (counts_in s)) c (sym e) in
-    let l = none_left (layout_fault s) (field_fault s (counts_in s)) n in
-    let f = none_right (layout_fault s) (field_fault s (counts_in s)) n in
-    rw v (record_of s b l f)
+    rw (value_of _ _ c (sym e)) (record_of s b (none_left (layout_fault s) _ n) (none_right (layout_fault s) _ n))

@@ -53,8 +53,8 @@ module _ (s : List ℕ) where
 
   module _ (q : Counts) (h : Ok q ≡ unless (layout_fault s) (counts_in s)) where
     pub shaped_counts : Shaped q (length s)
-    shaped_counts = rw (value_of (layout_fault s) (counts_in s) q h) (shaped s (none_of (layout_fault s) (counts_in s) q h))
+    shaped_counts = rw (value_of _ _ q h) (shaped s (none_of _ _ q h))
 
     pub whole : (r : Result Content Refusal) → r ≡ unless (field_fault s q) (content_in s q) → r ≡ verdict s
     whole r e =
-        rw (value_of (layout_fault s) (counts_in s) q h) at e ∙ sym (went (layout_fault s) _ (counts_in s) q _ h)
+        rw (value_of _ _ q h) at e ∙ sym (went (layout_fault s) _ (counts_in s) q _ h)

@@ -35,12 +35,6 @@ module _ (s : List ℕ) (b : Bytes s) where
   small32 : (at : ℕ) → nat32 s at < 2 ^ 32
   small32 at = omega (arith, b at, b (at + 1), b (at + 2), b (at + 3))
 
-  plain16 : (at : ℕ) → bytes16 (nat16 s at) ≡ byte s at ∷ byte s (at + 1) ∷ []
-  plain16 at = split16 _ _ (b at) (b (at + 1))
-
-  plain32 : (at : ℕ) → bytes32 (nat32 s at) ≡ byte s at ∷ byte s (at + 1) ∷ byte s (at + 2) ∷ byte s (at + 3) ∷ []
-  plain32 at = split32 _ _ _ _ (b at) (b (at + 1)) (b (at + 2)) (b (at + 3))
-
   -- what stands at a place, byte by byte
   pub drop1 : (at : ℕ) → at + 1 ≤ length s → drop at s ≡ byte s at ∷ drop (at + 1) s
   drop1 at h = drop_more s at 0 (omega arith)
@@ -63,10 +57,10 @@ module _ (s : List ℕ) (b : Bytes s) where
   -- a number and what follows it
   module _ (at end : ℕ) where
     pub number16 : at + 2 ≡ end → end ≤ length s → drop at s ≡ bytes16 (nat16 s at) ++ drop end s
-    number16 e h = cc (drop2 at (omega arith), plain16 at)
+    number16 e h = cc (drop2 at (omega arith), split16 _ _ (b at) (b (at + 1)))
 
     pub number32 : at + 4 ≡ end → end ≤ length s → drop at s ≡ bytes32 (nat32 s at) ++ drop end s
-    number32 e h = cc (drop4 at (omega arith), plain32 at)
+    number32 e h = cc (drop4 at (omega arith), split32 _ _ _ _ (b at) (b (at + 1)) (b (at + 2)) (b (at + 3)))
 
     integer16 : at + 2 ≡ end → end ≤ length s → drop at s ≡ signed16 (int16 s at) ++ drop end s
     integer16 e h = rw (of_z-to_z w16 (nat16 s at) (omega (arith, b at, b (at + 1)))) (number16 e h)
