@@ -1,9 +1,9 @@
 -- The count of a box is the number of its settings.
-use Rattle.std.proofs.Common.{◌≡◌, ℕ, zero, suc, ◌+◌, ◌*◌, ◌/◌, ◌%◌, ◌^◌, ◌<◌, ◌≤◌, List, [], ◌∷◌, ◌++◌, map, length, get_or, take, ℤ, pos, ◌+ℤ◌, ◌-ℤ◌, nat_abs, ◌≤ℤ◌, sym, refl, ap, ◌∙◌, mul-le-mul_right, mul_assoc, div-lt_iff_lt-mul, mul-le-mul, div-add-mod', arith, pow_mono}
-use Rattle.std.proofs.lemmas.Nat.{mod_below, pow-add}
+use Rattle.std.proofs.Common.{◌≡◌, ℕ, zero, suc, ◌+◌, ◌*◌, ◌/◌, ◌%◌, ◌^◌, ◌<◌, ◌≤◌, List, [], ◌∷◌, ◌++◌, map, length, get_or, take, ℤ, pos, ◌+ℤ◌, ◌-ℤ◌, nat_abs, ◌≤ℤ◌, sym, refl, ap, ◌∙◌, mul_assoc, div-lt_iff_lt-mul, mul-le-mul, arith, pow_mono}
+use Rattle.std.proofs.Math.Nat.{mul-pos}
+use Rattle.std.proofs.lemmas.Nat.{mod_below, pow-add, mul-add-lt, div-mul-add, mod-mul-add, div-add-mod'}
 use Rattle.std.proofs.lemmas.List.{get_or-map, length-map, map_more, nil_from_length}
 use Rattle.std.proofs.lemmas.Int.{ints}
-use Rattle.whole.proofs.Shifts.{div_unique}
 use Rattle.boxes.specs.Boxes.{Ends, In, Numbered, nought, width, count}
 use Rattle.boxes.specs.Views.{ends_of}
 use Rattle.boxes.specs.declared.side.Side.{Side}
@@ -30,61 +30,14 @@ in_more e box x s l h i = record { knobs = ap suc i.knobs; from = low; to = high
 
 in_less : (e : Ends) (box : List Ends) (x : ℤ) (s : List ℤ) → In (e ∷ box) (x ∷ s) → In box s
 in_less e box x s i = record {
-  knobs = let k = i.knobs in omega arith;
+  knobs = omega arith;
   from = λ n k. i.from (suc n) (omega arith);
   to = λ n k. i.to (suc n) (omega arith);
 }
 
 pub count_pos : (box : List Ends) → 0 < count box
 count_pos [] = omega arith
-count_pos (e ∷ box) =
-    let w : 1 ≤ width e = omega arith in
-    let k = mul-le-mul w (count_pos box) in
-    omega arith
-
--- a place in rows of m: the row and the place in it
-row_below : (w m i : ℕ) → 0 < m → i < w * m → i / m < w
-row_below w m i p h = (div-lt_iff_lt-mul {k = m} p).1 h
-
-place_below : (w m k j : ℕ) → k < w → j < m → k * m + j < w * m
-place_below w m k j h l = let q = mul-le-mul_right m h in omega arith
-
-row_at : (m k j : ℕ) → j < m → (k * m + j) / m ≡ k
-row_at m k j h = div_unique m (k * m + j) k (omega arith) (omega arith) (omega arith)
-
-place_at : (m k j : ℕ) → j < m → (k * m + j) % m ≡ j
-place_at m k j h =
-    let d = div-add-mod' (k * m + j) m in
-    let r = ap (λ n. n * m) (row_at m k j h) in
-    omega arith
-
-one_place : (m i j : ℕ) → i / m ≡ j / m → i % m ≡ j % m → i ≡ j
-one_place m i j p q =
-    let a = div-add-mod' i m in
-    let b = div-add-mod' j m in
-    let r = ap (λ n. n * m) p in
-    omega arith
-
-up_from : (l h : ℤ) (k : ℕ) → l ≤ℤ h → k < nat_abs (h -ℤ l) + 1 → (l +ℤ pos k) ≤ℤ h
-up_from l h k o b = omega (arith, ints)
-
-back_from : (l x : ℤ) → l ≤ℤ x → l +ℤ pos (nat_abs (x -ℤ l)) ≡ x
-back_from l x h = omega (arith, ints)
-
-one_up : (l : ℤ) (j k : ℕ) → l +ℤ pos j ≡ l +ℤ pos k → j ≡ k
-one_up l j k e = omega (arith, ints)
-
-above : (l : ℤ) (k : ℕ) → l ≤ℤ (l +ℤ pos k)
-above l k = omega (arith, ints)
-
-short : (l x h : ℤ) → l ≤ℤ x → x ≤ℤ h → nat_abs (x -ℤ l) < nat_abs (h -ℤ l) + 1
-short l x h p q = omega (arith, ints)
-
-head_same : {A : Type 0} (x y : A) (xs ys : List A) → x ∷ xs ≡ y ∷ ys → x ≡ y
-head_same x y xs ys e = cc
-
-tail_same : {A : Type 0} (x y : A) (xs ys : List A) → x ∷ xs ≡ y ∷ ys → xs ≡ ys
-tail_same x y xs ys e = cc
+count_pos (e ∷ box) = mul-pos (omega arith) (count_pos box)
 
 -- the settings of a box with one side more: for each number of that side, those of the box
 module _ (e : Ends) (box : List Ends) (o : e.lo ≤ℤ e.hi) (r : Numbered (count box) (In box)) where
@@ -96,30 +49,31 @@ module _ (e : Ends) (box : List Ends) (o : e.lo ≤ℤ e.hi) (r : Numbered (coun
   nth_in i h =
       let m = count box in
       let p = count_pos box in
-      let b = row_below (width e) m i p h in
-      in_more e box _ _ (above e.lo (i / m)) (up_from e.lo e.hi (i / m) o b) (r.only (i % m) (mod_below i m p))
+      let b : i / m < width e = (div-lt_iff_lt-mul {k = m} p).1 h in
+      in_more e box _ _ (omega (arith, ints)) (omega (arith, ints)) (r.only (i % m) (mod_below i m p))
 
   nth_each : (x : List ℤ) → In (e ∷ box) x → (i : ℕ) × (i < width e * count box) × (nth i ≡ x)
   unfolding nth
-  nth_each [] i = let k = i.knobs in absurd (omega arith)
+  nth_each [] i = absurd (omega arith)
   nth_each (x ∷ s) i =
       let m = count box in
       let t = r.each s (in_less e box x s i) in
       let l = i.from 0 (omega arith) in
       let h = i.to 0 (omega arith) in
       let k = nat_abs (x -ℤ e.lo) in
-      let a : e.lo +ℤ pos ((k * m + t.0) / m) ≡ x = ap (λ n. e.lo +ℤ pos n) (row_at m k t.0 t.1) ∙ back_from e.lo x l in
-      let b : r.at ((k * m + t.0) % m) ≡ s = ap r.at (place_at m k t.0 t.1) ∙ t.2 in
-      (k * m + t.0, place_below (width e) m k t.0 (short e.lo x e.hi l h) t.1, cc)
+      let w : k < width e = omega (arith, ints) in
+      let u : e.lo +ℤ pos k ≡ x = omega (arith, ints) in
+      (k * m + t.0, omega (arith, mul-add-lt k m t.0 (width e) w t.1), rw (div-mul-add k m t.0 t.1, mod-mul-add k m t.0 t.1, u, t.2))
 
   nth_once : (i j : ℕ) → i < width e * count box → j < width e * count box → nth i ≡ nth j → i ≡ j
   unfolding nth
   nth_once i j h k q =
       let m = count box in
       let p = count_pos box in
-      one_place m i j
-      (one_up e.lo (i / m) (j / m) (head_same _ _ _ _ q))
-      (r.once (i % m) (j % m) (mod_below i m p) (mod_below j m p) (tail_same _ _ _ _ q))
+      let u : e.lo +ℤ pos (i / m) ≡ e.lo +ℤ pos (j / m) = cc in
+      let a : i / m ≡ j / m = omega (arith, ints) in
+      let b = r.once (i % m) (j % m) (mod_below i m p) (mod_below j m p) (cc) in
+      sym (div-add-mod' i m) ∙ (λ o. a o * m + b o) ∙ div-add-mod' j m
 
   numbered_more : Numbered (width e * count box) (In (e ∷ box))
   numbered_more = record { at = nth; only = nth_in; each = nth_each; once = nth_once }
@@ -139,17 +93,13 @@ count_push [] e = omega arith
 count_push (x ∷ box) e = ap (λ n. width x * n) (count_push box e) ∙ sym (mul_assoc (width x) (count box) (width e))
 
 pub sides_in_order : (sides : List Side) → InOrder (map ends_of sides)
-sides_in_order sides n h =
-    let k : n < length sides = omega (arith, length-map sides ends_of) in
-    rw (get_or-map ends_of sides n zero_side nought k) (get_or sides n zero_side).order
+sides_in_order sides n h = rw (get_or-map ends_of sides n zero_side nought (omega (arith, length-map sides ends_of))) (get_or sides n zero_side).order
 
 -- a product of counts that keeps within the powers of 2^15
 pub product_below : (n w k : ℕ) → n ≤ 2 ^ (15 * k) → w ≤ 32768 → n * w ≤ 2 ^ (15 * (k + 1))
 product_below n w k h l =
-    let m = mul-le-mul h l in
     let e : 15 * (k + 1) ≡ 15 * k + 15 = omega arith in
-    let p : 2 ^ (15 * (k + 1)) ≡ 2 ^ (15 * k) * 32768 = ap (λ n. 2 ^ n) e ∙ pow-add 2 (15 * k) 15 in
-    rw p m
+    rw (e, pow-add 2 (15 * k) 15) (mul-le-mul h l)
 
 pub power_below : (k : ℕ) → k ≤ 4 → 2 ^ (15 * k) ≤ 2 ^ 60
 power_below k h = pow_mono {i = 15 * k} {j = 60} (omega arith)
@@ -157,8 +107,4 @@ power_below k h = pow_mono {i = 15 * k} {j = 60} (omega arith)
 -- the count of the first sides, with one more
 pub count_more : (sides : List Side) (k n : ℕ) (s : Side) → k < length sides → s ≡ get_or sides k s → n ≡ count (map ends_of (take k sides)) →
     n * width (ends_of s) ≡ count (map ends_of (take (k + 1) sides))
-count_more sides k n s h e q =
-    let m = map_more ends_of sides k s h in
-    let p = count_push (map ends_of (take k sides)) (ends_of (get_or sides k s)) in
-    let r : n * width (ends_of s) ≡ count (map ends_of (take k sides)) * width (ends_of (get_or sides k s)) = cc in
-    r ∙ sym p ∙ ap count (sym m)
+count_more sides k n s h e q = rw (q, map_more ends_of sides k s h, count_push, ← e)

@@ -1,9 +1,10 @@
 -- A box lies inside another exactly where each of its sides lies within the other's.
-use Rattle.std.proofs.Common.{◌≡◌, ℕ, zero, suc, ◌<◌, Bool, true, false, List, [], ◌∷◌, map, length, get_or, ℤ, pos, ◌≤ℤ◌, Decides, sym, refl, ap, subst, arith, ◌&&◌}
+use Rattle.std.proofs.Common.{◌≡◌, ℕ, zero, suc, ◌<◌, Bool, true, false, List, [], ◌∷◌, map, length, get_or, ℤ, pos, ◌≤ℤ◌, Decides, sym, refl, ap, subst, arith}
 use lib.Signed.{le_z}
+use Rattle.std.proofs.Math.Bool.{and-false}
 use Rattle.std.proofs.lemmas.List.{get_or-map, length-map}
 use Rattle.std.proofs.lemmas.Int.{ints}
-use Rattle.std.proofs.lemmas.Bool.{and_parts, and_from, false≢true}
+use Rattle.std.proofs.lemmas.Bool.{and_parts, and_from, false≢true, false_from_ne_true}
 use Rattle.std.specs.Bool.{MatchBool}
 use Rattle.std.specs.List.{AllWithin, HoldsAt, zip}
 use Rattle.whole.proofs.Products.{is_le, le_in}
@@ -52,18 +53,13 @@ nested_in (e ∷ box) (f ∷ other) t =
 pub nested_out : (box other : List Ends) → Nested box other → nested box other ≡ true
 unfolding nested
 nested_out [] [] r = refl
-nested_out [] (f ∷ other) r = let k = r.knobs in absurd (omega arith)
-nested_out (e ∷ box) [] r = let k = r.knobs in absurd (omega arith)
+nested_out [] (f ∷ other) r = absurd (omega arith)
+nested_out (e ∷ box) [] r = absurd (omega arith)
 nested_out (e ∷ box) (f ∷ other) r =
-    let k = r.knobs in
     and_from _ _ (covered_out f e (r.sides 0 (omega arith))) (nested_out box other (record { knobs = omega arith; sides = λ n h. r.sides (suc n) (omega arith) }))
 
 pub nested_not : (box other : List Ends) → (Nested box other → ⊥) → nested box other ≡ false
-nested_not box other n = go (nested box other) refl
-  where
-    go : (b : Bool) → nested box other ≡ b → b ≡ false
-    go true e = absurd (n (nested_in box other e))
-    go false e = refl
+nested_not box other n = false_from_ne_true (nested box other) (λ e. n (nested_in box other e))
 
 -- the settings of all low ends and of all high ends
 module _ (box : List Ends) (o : InOrder box) where
@@ -82,15 +78,15 @@ module _ (box : List Ends) (o : InOrder box) where
   pub lows_in : In box lows
   lows_in = record {
     knobs = length-map box (λ e. e.lo);
-    from = λ n h. let e = low_at n h in omega (arith, ints);
-    to = λ n h. let e = low_at n h in let k = o n h in omega (arith, ints);
+    from = λ n h. omega (arith, ints, low_at n h);
+    to = λ n h. omega (arith, ints, low_at n h, o n h);
   }
 
   pub highs_in : In box highs
   highs_in = record {
     knobs = length-map box (λ e. e.hi);
-    from = λ n h. let e = high_at n h in let k = o n h in omega (arith, ints);
-    to = λ n h. let e = high_at n h in omega (arith, ints);
+    from = λ n h. omega (arith, ints, high_at n h, o n h);
+    to = λ n h. omega (arith, ints, high_at n h);
   }
 
   -- a box whose settings are all the other's has its sides within the other's
@@ -98,7 +94,6 @@ module _ (box : List Ends) (o : InOrder box) where
   part_nested other p =
       let a = p lows lows_in in
       let b = p highs highs_in in
-      let k = a.knobs in
       let l = length-map box (λ e. e.lo) in
       record {
         knobs = omega arith;
@@ -112,14 +107,11 @@ module _ (box : List Ends) (o : InOrder box) where
 
 -- and the other way round
 pub nested_part : (box other : List Ends) → Nested box other → Part box other
-nested_part box other r s i =
-    let k = r.knobs in
-    let l = i.knobs in
-    record {
-      knobs = omega arith;
-      from = λ n h. let c = r.sides n (omega arith) in let f = i.from n (omega arith) in omega (arith, ints);
-      to = λ n h. let c = r.sides n (omega arith) in let t = i.to n (omega arith) in omega (arith, ints);
-    }
+nested_part box other r s i = record {
+  knobs = omega arith;
+  from = λ n h. let c = r.sides n (omega arith) in let f = i.from n (omega arith) in omega (arith, ints);
+  to = λ n h. let c = r.sides n (omega arith) in let t = i.to n (omega arith) in omega (arith, ints);
+}
 
 pub nested_decides : (box other : List Ends) → InOrder box → Decides (nested box other) (Part box other)
 nested_decides box other o = (λ t. nested_part box other (nested_in box other t), λ p. nested_out box other (part_nested box o other p))
@@ -127,10 +119,6 @@ nested_decides box other o = (λ t. nested_part box other (nested_in box other t
 -- the first side of a pair lies within the second, or does not
 abbrev pub PairCovers : Bool → Side × Side → Type 0
 PairCovers t p = covers (ends_of p.1) (ends_of p.0) ≡ t
-
-and_false : (a : Bool) → false ≡ (a && false)
-and_false true = refl
-and_false false = refl
 
 -- what a test of the sides, pair by pair, says of two boxes with as many knobs
 pub pairs_nested : (xs ys : List Side) (r : Bool) → length xs ≡ length ys
@@ -145,4 +133,4 @@ pairs_nested (x ∷ xs) (y ∷ ys) true e m =
     let h : covers (ends_of y) (ends_of x) ≡ true = m 0 (x, y) (omega arith) (omega arith) in
     rw h (pairs_nested xs ys true (omega arith) (λ k d l u. m (suc k) d (omega arith) (omega arith)))
 pairs_nested (x ∷ xs) (y ∷ ys) false e (zero, b, h) = let t : covers (ends_of y) (ends_of x) ≡ false = h (x, y) in rw t refl
-pairs_nested (x ∷ xs) (y ∷ ys) false e (suc k, b, h) = rw (← pairs_nested xs ys false (omega arith) (k, omega arith, h)) (and_false _)
+pairs_nested (x ∷ xs) (y ∷ ys) false e (suc k, b, h) = rw (← pairs_nested xs ys false (omega arith) (k, omega arith, h)) (sym (and-false _))

@@ -1,22 +1,19 @@
 -- The record of a content that keeps every rule is accepted, and gives the content back.
-use Rattle.std.proofs.Common.{◌≡◌, ℕ, ◌+◌, ◌*◌, ◌<◌, ◌≤◌, true, not, eqb, ltb, leb, List, [], ◌++◌, length, get_or, drop, pos, None, Ok, Option, sym, refl, ap, ◌∙◌, subst, append-nil, arith, length-append}
+use Rattle.std.proofs.Common.{◌≡◌, ℕ, ◌+◌, ◌*◌, ◌<◌, ◌≤◌, not, eqb, ltb, leb, List, [], ◌++◌, length, get_or, drop, pos, None, Ok, sym, refl, ap, ◌∙◌, subst, append-nil, zero-add, arith, length-append}
+use Rattle.std.proofs.lemmas.Nat.{div-add-mod'}
 use Rattle.std.proofs.lemmas.Bool.{not_from_true, le-ltb, lt-leb, eq-eqb, ne_eqb}
 use Rattle.std.specs.List.{flat_map}
-use Rattle.boxes.specs.Boxes.{Ends, nought, good_side}
+use Rattle.boxes.specs.Boxes.{nought, good_side}
 use Rattle.records.specs.declared.reason.Reason.TheVariants.{BadLength, BadVersion, BadShape, BadField}
-use Rattle.records.specs.declared.reason.Refusal.{Refusal}
-use Rattle.records.specs.declared.target.Target.{Target}
-use Rattle.records.specs.declared.instruction.Instruction.{Instruction}
 use Rattle.records.specs.declared.instruction.Instruction.TheVariants.{Const}
 use Rattle.records.specs.Numbers.{byte, nat16, nat32}
 use Rattle.records.specs.Places.{version_place, knobs_place, limit_place, sides_start, side_size, program_place, program_start, instruction_size, targets_place, targets_start, target_size}
-use Rattle.records.specs.Faults.{unless}
 use Rattle.records.specs.Rules.{Content, Keeps, good_instruction, good_target, no_target}
 use Rattle.records.specs.Entries.{side_faults, sides_from, instruction_faults, instructions_from, target_faults, targets_from}
 use Rattle.records.specs.Layouts.{Counts, instructions_in, targets_in, counts_in, ends_at, head_fault, count_fault, size_fault, layout_fault}
-use Rattle.records.specs.Verdicts.{limit_fault, sides_fault, program_fault, targets_fault, field_fault, fault, sides_read, program_read, targets_read, content_in, verdict}
+use Rattle.records.specs.Verdicts.{limit_fault, sides_fault, program_fault, targets_fault, field_fault, fault, content_in, verdict}
 use Rattle.records.specs.Encoding.{encode_side, encode_instruction, encode_target, table, tables, body, encode}
-use Rattle.records.proofs.Digits.{join16, join32}
+use Rattle.records.proofs.Digits.{join32}
 use Rattle.records.proofs.Checks.{one_clean, both_none}
 use Rattle.records.proofs.Runs.{all_none, every_at}
 use Rattle.records.proofs.Given.{byte_there, side_given, instruction_given, target_given}
@@ -36,10 +33,6 @@ size_clean s end e =
 -- how many entries each table of the content has
 abbrev counts_of : Content → Counts
 counts_of c = record { knobs = length c.sides; instructions = length c.program; targets = length c.targets }
-
-same_content : (l m : ℕ) (a b : List Ends) (p q : List Instruction) (t u : List Target) → l ≡ m → a ≡ b → p ≡ q → t ≡ u
-    → ◌≡◌ {A = Content} (record { limit = l; sides = a; program = p; targets = t }) (record { limit = m; sides = b; program = q; targets = u })
-same_content l m a b p q t u el ea ep et = rw (el, ea, ep, et)
 
 module _ (c : Content) (g : Keeps c) where
   abbrev knobs : ℕ
@@ -106,9 +99,8 @@ module _ (c : Content) (g : Keeps c) where
   instruction_read i h =
       let x = get_or c.program i (Const (pos 0)) in
       let t = item_there encode_instruction instruction_size wide_instruction (encode c) _ c.program (Const (pos 0)) (program_start knobs) program_there i h in
-      let q : 0 + i ≡ i = omega arith in
-      let e = every_at (good_instruction knobs) 0 c.program (Const (pos 0)) g.programmed i h in
-      instruction_given (encode c) (program_start knobs + instruction_size * i) t.0 knobs i x (subst (λ (j : ℕ). good_instruction knobs j x ≡ true) q e) t.1
+      let e = rw zero-add at (every_at (good_instruction knobs) 0 c.program (Const (pos 0)) g.programmed i h) in
+      instruction_given (encode c) (program_start knobs + instruction_size * i) t.0 knobs i x e t.1
 
   target_read : (i : ℕ) → i < length c.targets
       → (targets_from (encode c) (targets_start knobs registers) i ≡ get_or c.targets i no_target)
@@ -119,7 +111,7 @@ module _ (c : Content) (g : Keeps c) where
       (every_at (λ _ x. good_target registers x) 0 c.targets no_target g.aimed i h) t.1
 
   limit_read : nat16 (encode c) limit_place ≡ c.limit
-  limit_read = join16 c.limit
+  limit_read = div-add-mod' c.limit 256
 
   limit_clean : limit_fault (encode c) ≡ None
   limit_clean =
@@ -135,27 +127,22 @@ module _ (c : Content) (g : Keeps c) where
 
   content_is : content_in (encode c) (counts_of c) ≡ c
   content_is =
-      same_content
-      (nat16 (encode c) limit_place) c.limit
-      (sides_read (encode c) (counts_of c)) c.sides
-      (program_read (encode c) (counts_of c)) c.program
-      (targets_read (encode c) (counts_of c)) c.targets
-      limit_read
-      (listed_is (sides_from (encode c) sides_start) c.sides nought (λ i h. (side_read i h).0))
-      (listed_is (instructions_from (encode c) (program_start knobs)) c.program (Const (pos 0)) (λ i h. (instruction_read i h).0))
-      (listed_is (targets_from (encode c) (targets_start knobs registers)) c.targets no_target (λ i h. (target_read i h).0))
+      rw (
+        limit_read,
+        listed_is (sides_from (encode c) sides_start) c.sides nought (λ i h. (side_read i h).0),
+        listed_is (instructions_from (encode c) (program_start knobs)) c.program (Const (pos 0)) (λ i h. (instruction_read i h).0),
+        listed_is (targets_from (encode c) (targets_start knobs registers)) c.targets no_target (λ i h. (target_read i h).0),
+      )
 
   counts_are : counts_of c ≡ counts_in (encode c)
-  counts_are =
-      ap (λ (n : ℕ). record { knobs = knobs; instructions = n; targets = length c.targets }) (sym is_instructions)
-      ∙ ap (λ (n : ℕ). record { knobs = knobs; instructions = instructions_in (encode c); targets = n }) (sym is_targets)
+  counts_are = rw (is_targets, is_instructions)
 
   accepted : verdict (encode c) ≡ Ok c
   accepted =
       let f : field_fault (encode c) (counts_in (encode c)) ≡ None = subst (λ (q : Counts). field_fault (encode c) q ≡ None) counts_are field_clean in
       let v : content_in (encode c) (counts_in (encode c)) ≡ c = subst (λ (q : Counts). content_in (encode c) q ≡ c) counts_are content_is in
       let n : fault (encode c) ≡ None = both_none (layout_fault (encode c)) _ layout_clean f in
-      ap (λ (o : Option Refusal). unless o (content_in (encode c) (counts_in (encode c)))) n ∙ ap (λ (x : Content). Ok x) v
+      rw (n, v)
 
 -- the record of a content that keeps every rule is accepted, and gives the content back
 pub encoding_is_accepted : (c : Content) → Keeps c → verdict (encode c) ≡ Ok c

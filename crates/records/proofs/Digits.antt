@@ -20,10 +20,7 @@ split32 a b c d ha hb hc hd =
     let e3 : (a * 16777216 + b * 65536 + c * 256 + d) % 256 ≡ d = omega arith in
     cc
 
--- the number that is made of a number's bytes is that
-pub join16 : (n : ℕ) → n / 256 * 256 + n % 256 ≡ n
-join16 n = omega arith
-
+-- the number that is made of a number's four bytes is that
 pub join32 : (n : ℕ) → n / 16777216 * 16777216 + n / 65536 % 256 * 65536 + n / 256 % 256 * 256 + n % 256 ≡ n
 join32 n = omega arith
 
@@ -35,8 +32,8 @@ pub fits32 : (x : ℤ) → negsuc 1073741823 ≤ℤ x → x ≤ℤ pos 107374182
 fits32 x p q = search (arith, ints)
 
 -- four bytes whose number lies from 0 to 0 are 0
-only_zero : (c : ℤ) → between (neg_ℤ (pos 0)) c (pos 0) ≡ true → c ≡ pos 0
-only_zero c e = let b = between_in (pos 0) c (pos 0) e in omega (arith, ints, b.low, b.high)
-
 pub zero_bits : (n : ℕ) → n < 2 ^ 32 → between (neg_ℤ (pos 0)) (to_z w32 n) (pos 0) ≡ true → n ≡ 0
-zero_bits n h e = sym (of_z-to_z w32 n h) ∙ ap (of_z w32) (only_zero (to_z w32 n) e)
+zero_bits n h e =
+    let b = between_in (pos 0) (to_z w32 n) (pos 0) e in
+    let z : to_z w32 n ≡ pos 0 = omega (arith, ints, b.low, b.high) in
+    sym (of_z-to_z w32 n h) ∙ ap (of_z w32) z

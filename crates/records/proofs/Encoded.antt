@@ -1,11 +1,11 @@
 -- A byte string that is accepted is the record of what was read, which keeps every rule.
-use Rattle.std.proofs.Common.{◌≡◌, ℕ, ◌+◌, ◌*◌, ◌≤◌, not, eqb, ltb, List, [], ◌∷◌, ◌++◌, length, drop, None, Ok, sym, refl, ap, ◌∙◌, subst, append-nil, arith, length-drop}
+use Rattle.std.proofs.Common.{◌≡◌, ℕ, ◌+◌, ◌*◌, ◌≤◌, not, eqb, ltb, List, [], ◌∷◌, ◌++◌, length, drop, None, Ok, sym, refl, ap, ◌∙◌, append-nil, arith, length-drop}
 use Rattle.std.proofs.lemmas.List.FromFn.{length-map-range_with_len}
 use Rattle.std.proofs.lemmas.List.{drop_all}
 use Rattle.std.proofs.lemmas.Bool.{eqb-true, not-false}
 use Rattle.std.specs.List.{flat_map}
 use Rattle.records.specs.declared.reason.Reason.TheVariants.{BadLength, BadVersion}
-use Rattle.records.specs.Numbers.{byte, nat16, nat32, bytes16, bytes32, Bytes}
+use Rattle.records.specs.Numbers.{byte, nat32, Bytes}
 use Rattle.records.specs.Places.{version_place, knobs_place, limit_place, sides_start, side_size, program_place, program_start, instruction_size, targets_place, targets_start, target_size}
 use Rattle.records.specs.Faults.{first}
 use Rattle.records.specs.Rules.{Content, Keeps}
@@ -44,18 +44,14 @@ module _ (s : List ℕ) (b : Bytes s) (le : layout_fault s ≡ None) (fe : field
 
   -- a byte with its number, and what follows it
   counted : (at end n : ℕ) (xs : List ℕ) → at + 1 ≡ end → end ≤ length s → n ≡ byte s at → drop end s ≡ xs → drop at s ≡ n ∷ xs
-  counted at end n xs e h ne d =
-      drop1 s b at (omega arith)
-      ∙ (ap (λ (i : ℕ). byte s at ∷ drop i s) e ∙ (ap (λ (x : List ℕ). byte s at ∷ x) d ∙ ap (λ (x : ℕ). x ∷ xs) (sym ne)))
+  counted at end n xs e h ne d = cc (drop1 s b at (omega arith))
 
   -- from the back: each table, and the count in front of it
   targets_tail : drop (targets_start (knobs_in s) (instructions_in s)) s ≡ flat_map encode_target (targets_read s (counts_in s))
   targets_tail =
       let start = targets_start (knobs_in s) (instructions_in s) in
-      items_back encode_target s start target_size (targets_from s start) (targets_in s)
-      (λ k h. target_back s b (start + target_size * k) (omega (arith, shape.ends)))
-      ∙ (ap (λ (x : List ℕ). flat_map encode_target (targets_read s (counts_in s)) ++ x) (drop_all (ends_at (counts_in s)) s (omega (arith, shape.ends)))
-      ∙ append-nil _)
+      rw (drop_all (ends_at (counts_in s)) s (omega (arith, shape.ends)), append-nil) at
+      (items_back encode_target s start target_size (targets_from s start) (targets_in s) (λ k h. target_back s b (start + target_size * k) (omega (arith, shape.ends))))
 
   targets_back : drop (targets_place (knobs_in s) (instructions_in s)) s ≡ table encode_target (targets_read s (counts_in s))
   targets_back =
@@ -66,10 +62,9 @@ module _ (s : List ℕ) (b : Bytes s) (le : layout_fault s ≡ None) (fe : field
   program_tail : drop (program_start (knobs_in s)) s ≡ flat_map encode_instruction (program_read s (counts_in s)) ++ table encode_target (targets_read s (counts_in s))
   program_tail =
       let start = program_start (knobs_in s) in
-      items_back encode_instruction s start instruction_size (instructions_from s start) (instructions_in s)
+      rw (← targets_back) (items_back encode_instruction s start instruction_size (instructions_from s start) (instructions_in s)
       (λ k h. instruction_back s b (knobs_in s) k (start + instruction_size * k) (omega (arith, shape.ends))
-      (each_none (instruction_faults s (knobs_in s) start) (instructions_in s) k program_none h))
-      ∙ ap (λ (x : List ℕ). flat_map encode_instruction (program_read s (counts_in s)) ++ x) targets_back
+      (each_none (instruction_faults s (knobs_in s) start) (instructions_in s) k program_none h)))
 
   tables_back : drop (program_place (knobs_in s)) s ≡ tables (content_in s (counts_in s))
   tables_back =
@@ -79,9 +74,8 @@ module _ (s : List ℕ) (b : Bytes s) (le : layout_fault s ≡ None) (fe : field
 
   sides_tail : drop sides_start s ≡ flat_map encode_side (sides_read s (counts_in s)) ++ tables (content_in s (counts_in s))
   sides_tail =
-      items_back encode_side s sides_start side_size (sides_from s sides_start) (knobs_in s)
-      (λ k h. side_back s b (sides_start + side_size * k) (omega (arith, shape.ends)))
-      ∙ ap (λ (x : List ℕ). flat_map encode_side (sides_read s (counts_in s)) ++ x) tables_back
+      rw (← tables_back) (items_back encode_side s sides_start side_size (sides_from s sides_start) (knobs_in s)
+      (λ k h. side_back s b (sides_start + side_size * k) (omega (arith, shape.ends))))
 
   head_kept : (nat32 s 0 + 4 ≡ length s) × (byte s version_place ≡ 1)
   head_kept =
@@ -95,14 +89,12 @@ module _ (s : List ℕ) (b : Bytes s) (le : layout_fault s ≡ None) (fe : field
   body_is =
       counted version_place knobs_place 1 _ refl (omega (arith, shape.ends)) (sym head_kept.1)
       (counted knobs_place limit_place _ _ refl (omega (arith, shape.ends)) (length-map-range_with_len (sides_from s sides_start) 0 (knobs_in s))
-      (number16 s b limit_place sides_start refl (omega (arith, shape.ends)) ∙ ap (λ (x : List ℕ). bytes16 (nat16 s limit_place) ++ x) sides_tail))
+      (rw (← sides_tail) (number16 s b limit_place sides_start refl (omega (arith, shape.ends)))))
 
   encode_is : encode (content_in s (counts_in s)) ≡ s
   encode_is =
       let n : length (body (content_in s (counts_in s))) ≡ nat32 s 0 = ap length (sym body_is) ∙ (length-drop 4 s ∙ omega (arith, head_kept.0)) in
-      ap (λ (x : ℕ). bytes32 x ++ body (content_in s (counts_in s))) n
-      ∙ (ap (λ (x : List ℕ). bytes32 (nat32 s 0) ++ x) (sym body_is)
-      ∙ sym (number32 s b 0 4 refl (omega (arith, shape.ends))))
+      rw (n, ← body_is) (sym (number32 s b 0 4 refl (omega (arith, shape.ends))))
 
   keeps : Keeps (content_in s (counts_in s))
   keeps =
@@ -132,7 +124,4 @@ module _ (s : List ℕ) (b : Bytes s) (le : layout_fault s ≡ None) (fe : field
 pub accepted_is_encoding : (s : List ℕ) (c : Content) → Bytes s → verdict s ≡ Ok c → RecordOf Keeps c s
 accepted_is_encoding s c b e =
     let n = none_of (fault s) (content_in s (counts_in s)) c (sym e) in
-    let v = value_of (fault s) (content_in s (counts_in s)) c (sym e) in
-    let l = none_left (layout_fault s) (field_fault s (counts_in s)) n in
-    let f = none_right (layout_fault s) (field_fault s (counts_in s)) n in
-    subst (λ (x : Content). RecordOf Keeps x s) (sym v) (record_of s b l f)
+    rw (value_of _ _ c (sym e)) (record_of s b (none_left (layout_fault s) _ n) (none_right (layout_fault s) _ n))

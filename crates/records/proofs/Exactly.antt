@@ -1,5 +1,5 @@
 -- An answer that is right about every record is exact.
-use Rattle.std.proofs.Common.{◌≡◌, ℕ, List, Ok, Err, Result, sym, ap, ◌∙◌, arith}
+use Rattle.std.proofs.Common.{◌≡◌, ℕ, List, Ok, Err, Result, sym, ap, ◌∙◌}
 use Rattle.records.specs.declared.fields.Fields.{Fields}
 use Rattle.records.specs.declared.reason.Refusal.{Refusal}
 use Rattle.records.specs.Encoding.{Exact, RecordOf}
@@ -14,7 +14,7 @@ module _ (Rules : Content → Type 0) (s : List ℕ) (v : Result Content Refusal
     (only : (c : Content) → v ≡ Ok c → RecordOf Rules c s) (each : (c : Content) → RecordOf Rules c s → v ≡ Ok c) where
   pub exact_by : {A : Type 0} (view : A → Content) (r : Result A Refusal) → mapped view r ≡ v → Exact Rules s view r
   exact_by view (Ok x) e = (only (view x) (sym e), λ c i. let q = each c i in cc)
-  exact_by view (Err d) e = λ c i. let q = each c i in let z : ◌≡◌ {A = ℕ} 0 1 = cc in omega arith
+  exact_by view (Err d) e = λ c i. let q = each c i in cc
 
 pub exact_fields : (s : List ℕ) (r : Result Fields Refusal) → Bytes s → mapped content r ≡ verdict s → Exact Keeps s content r
 exact_fields s r b e =

@@ -1,5 +1,5 @@
 -- A table that is made entry by entry holds what is read, up to the first fault.
-use Rattle.std.proofs.Common.{◌≡◌, ℕ, ◌<◌, List, map, length, get_or, Ok, Err, Option, Result, sym, ◌∙◌, refl, subst, arith}
+use Rattle.std.proofs.Common.{◌≡◌, ℕ, ◌<◌, List, map, length, get_or, Ok, Err, Option, Result, sym, ◌∙◌, refl, arith}
 use Rattle.std.proofs.lemmas.List.{get_or-map, length-map, map-id}
 use Rattle.std.specs.Result.{MatchResult}
 use Rattle.tables.specs.Tables.{Failed, Made, entries}
@@ -20,18 +20,17 @@ module _ {T V : Type 0} (d : T) (shown : T → V) (fault : ℕ → Option Refusa
   made : (xs : List T) → Made makes n xs → Ok (map shown xs) ≡ unless (first_of fault n) (listed item n)
   made xs m =
       let each = λ (k : ℕ) (h : k < n). reads k (Ok (get_or xs k d)) h (m.each k d h) in
-      let clean = all_none fault n (λ k h. none_of (fault k) (item k) (shown (get_or xs k d)) (each k h)) in
+      let clean = all_none fault n (λ k h. none_of _ _ _ (each k h)) in
       let long : length (map shown xs) ≡ n = length-map xs shown ∙ m.long in
       let same : listed item (length (map shown xs)) ≡ map shown xs = listed_is item (map shown xs) (shown d) (λ k h.
-      let l : k < n = omega arith in
-      sym (get_or-map shown xs k d (shown d) (omega (arith, m.long)) ∙ value_of (fault k) (item k) (shown (get_or xs k d)) (each k l))) in
-      let all = subst (λ (i : ℕ). listed item i ≡ map shown xs) long same in
+      sym (get_or-map shown xs k d (shown d) (omega (arith, m.long)) ∙ value_of _ _ _ (each k (omega arith)))) in
+      let all = rw long at same in
       rw (clean, all)
 
   failed : (e : Refusal) → Failed makes n e → Err e ≡ unless (first_of fault n) (listed item n)
   failed e f =
-      let clean = all_none fault f.at (λ k h. let b = f.before k h in none_of (fault k) (item k) (shown b.0) (reads k (Ok b.0) (let l = f.below in omega arith) b.1)) in
-      rw (found fault f.at n e clean (some_of (fault f.at) (item f.at) e (reads f.at (Err e) f.below f.fails)) f.below)
+      let clean = all_none fault f.at (λ k h. let b = f.before k h in none_of _ _ _ (reads k (Ok b.0) (omega arith) b.1)) in
+      rw (found fault f.at n e clean (some_of _ _ e (reads f.at (Err e) f.below f.fails)) f.below)
 
   pub filled : {N : ℕ} (r : Result (Table T N) Refusal) → MatchResult r (λ t. Made makes n (entries t)) (Failed makes n) → mapped (λ t. map shown (entries t)) r ≡ unless (first_of fault n) (listed item n)
   filled (Ok t) m = made (entries t) m

@@ -1,9 +1,8 @@
 -- The refusal that reading tells is the broken rule that is looked at first.
-use Rattle.std.proofs.Common.{◌≡◌, ℕ, suc, ◌+◌, ◌<◌, ◌≤◌, min, Bool, false, not, eqb, ltb, leb, ◌⊎◌, List, [], ◌∷◌, length, pos, negsuc, Decides, Result, sym, refl, subst, inl, inr, arith}
+use Rattle.std.proofs.Common.{◌≡◌, ℕ, suc, ◌+◌, ◌<◌, ◌≤◌, min, Bool, false, not, eqb, ltb, leb, ◌⊎◌, List, [], ◌∷◌, length, pos, negsuc, Decides, Result, refl, inl, inr, arith}
 use Rattle.std.proofs.lemmas.Bool.{not-true, not_from_false, leb-true, le-leb}
 use Rattle.std.proofs.lemmas.Bool.Decides.{Decides-eqb, Decides-ltb, Decides-not, Decides-or, Decides-like}
 use Rattle.boxes.specs.Boxes.{between}
-use Rattle.records.specs.declared.reason.Reason.{Reason}
 use Rattle.records.specs.declared.reason.Reason.TheVariants.{BadLength, BadVersion, BadShape, BadInstruction, BadField}
 use Rattle.records.specs.declared.reason.Refusal.{Refusal}
 use Rattle.records.specs.declared.fields.Fields.{Fields}
@@ -42,9 +41,9 @@ module _ (s : List ℕ) where
   Head = Or Short (Or Miscounted Version)
 
   head_stage : (e : Refusal) → Head e → stage e.reason ≤ 2
-  head_stage e (inl x) = omega (arith, one_stage _ BadLength _ e x)
-  head_stage e (inr (inl x)) = omega (arith, one_stage _ BadLength _ e x)
-  head_stage e (inr (inr x)) = omega (arith, one_stage _ BadVersion _ e x)
+  head_stage e (inl x) = rw x.1 (omega arith)
+  head_stage e (inr (inl x)) = rw x.1 (omega arith)
+  head_stage e (inr (inr x)) = rw x.1 (omega arith)
 
   past_short : (d e : Refusal) → Short d → Or Miscounted Version e → Earlier e d → ⊥
   past_short d e x (inl y) = λ _. omega (arith, x.0, y.0.0)
@@ -201,47 +200,29 @@ module _ (s : List ℕ) where
       (λ d e x y. later_stage d e (omega (arith, layout_stage d x, (field_ranked.within.spot e y).staged)))
 
   -- each of them breaks a rule of a record
-  broken_at : (X : Type 0) (why : Reason) (p : ℕ) (e : Refusal) → (X → Broken s (at why p)) → One X why p e → Broken s e
-  broken_at X why p e f x = subst (Broken s) (sym x.1) (f x.0)
-
-  broken_head : (e : Refusal) → Head e → Broken s e
-  broken_head e (inl x) = broken_at _ BadLength (length s) e short x
-  broken_head e (inr (inl x)) = broken_at _ BadLength 0 e (λ y. miscounted y.0 y.1) x
-  broken_head e (inr (inr x)) = broken_at _ BadVersion version_place e version x
-
   broken_count : (p most : ℕ) (e : Refusal) → Count s p most → Miscount p most e → Broken s e
-  broken_count p most e c (inl x) = broken_at _ BadShape (length s) e (count_past_end p most c) x
-  broken_count p most e c (inr x) = broken_at _ BadShape p e (λ y. count_out p most c y.0 y.1) x
-
-  broken_shape : (e : Refusal) → Shape e → Broken s e
-  broken_shape e (inl x) = broken_count _ _ e knobs x
-  broken_shape e (inr (inl x)) = broken_count _ _ e instructions x
-  broken_shape e (inr (inr (inl x))) = broken_count _ _ e targets x
-  broken_shape e (inr (inr (inr (inl x)))) = broken_at _ BadShape (length s) e cut_off x
-  broken_shape e (inr (inr (inr (inr x)))) = broken_at _ BadShape (ends_at (counts_in s)) e left_over x
-
-  broken_side : (k : ℕ) (e : Refusal) → k < knobs_in s → Side k e → Broken s e
-  broken_side k e h (inl x) = broken_at _ BadField (side_place k) e (side_low k h) x
-  broken_side k e h (inr x) = broken_at _ BadField (side_place k + 2) e (side_high k h) x
-
-  broken_row : (k : ℕ) (e : Refusal) → k < instructions_in s → Row k e → Broken s e
-  broken_row k e h (inl x) = broken_at _ BadInstruction (instruction_place s k) e (operation k h) x
-  broken_row k e h (inr (inl x)) = broken_at _ BadInstruction (instruction_place s k + 1) e (field_a k h) x
-  broken_row k e h (inr (inr (inl x))) = broken_at _ BadInstruction (instruction_place s k + 2) e (field_b k h) x
-  broken_row k e h (inr (inr (inr x))) = broken_at _ BadInstruction (instruction_place s k + 3) e (field_c k h) x
-
-  broken_aim : (k : ℕ) (e : Refusal) → k < targets_in s → Aim k e → Broken s e
-  broken_aim k e h (inl x) = broken_at _ BadField (target_place s k) e (register k h) x
-  broken_aim k e h (inr (inl x)) = broken_at _ BadField (target_place s k + 1) e (target_low k h) x
-  broken_aim k e h (inr (inr x)) = broken_at _ BadField (target_place s k + 5) e (target_high k h) x
+  broken_count p most e c (inl x) = rw x.1 (count_past_end p most c x.0)
+  broken_count p most e c (inr x) = rw x.1 (count_out p most c x.0.0 x.0.1)
 
   broken_by : (e : Refusal) → Rules e → Broken s e
-  broken_by e (inl (inl x)) = broken_head e x
-  broken_by e (inl (inr x)) = broken_shape e x
-  broken_by e (inr (inl x)) = broken_at _ BadField limit_place e limit x
-  broken_by e (inr (inr (inl x))) = broken_side x.0 e x.1 x.2
-  broken_by e (inr (inr (inr (inl x)))) = broken_row x.0 e x.1 x.2
-  broken_by e (inr (inr (inr (inr x)))) = broken_aim x.0 e x.1 x.2
+  broken_by e (inl (inl (inl x))) = rw x.1 (short x.0)
+  broken_by e (inl (inl (inr (inl x)))) = rw x.1 (miscounted x.0.0 x.0.1)
+  broken_by e (inl (inl (inr (inr x)))) = rw x.1 (version x.0)
+  broken_by e (inl (inr (inl x))) = broken_count _ _ e knobs x
+  broken_by e (inl (inr (inr (inl x)))) = broken_count _ _ e instructions x
+  broken_by e (inl (inr (inr (inr (inl x))))) = broken_count _ _ e targets x
+  broken_by e (inl (inr (inr (inr (inr (inl x)))))) = rw x.1 (cut_off x.0)
+  broken_by e (inl (inr (inr (inr (inr (inr x)))))) = rw x.1 (left_over x.0)
+  broken_by e (inr (inl x)) = rw x.1 (limit x.0)
+  broken_by e (inr (inr (inl (k, h, inl x)))) = rw x.1 (side_low k h x.0)
+  broken_by e (inr (inr (inl (k, h, inr x)))) = rw x.1 (side_high k h x.0)
+  broken_by e (inr (inr (inr (inl (k, h, inl x))))) = rw x.1 (operation k h x.0)
+  broken_by e (inr (inr (inr (inl (k, h, inr (inl x)))))) = rw x.1 (field_a k h x.0)
+  broken_by e (inr (inr (inr (inl (k, h, inr (inr (inl x))))))) = rw x.1 (field_b k h x.0)
+  broken_by e (inr (inr (inr (inl (k, h, inr (inr (inr x))))))) = rw x.1 (field_c k h x.0)
+  broken_by e (inr (inr (inr (inr (k, h, inl x))))) = rw x.1 (register k h x.0)
+  broken_by e (inr (inr (inr (inr (k, h, inr (inl x)))))) = rw x.1 (target_low k h x.0)
+  broken_by e (inr (inr (inr (inr (k, h, inr (inr x)))))) = rw x.1 (target_high k h x.0)
 
   -- and there is no other
   count_of : (p most : ℕ) (e : Refusal) → Count s p most → Miscount p most e → Rules e

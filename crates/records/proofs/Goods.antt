@@ -18,7 +18,7 @@ use Rattle.records.proofs.Runs.{every_listed}
 
 -- what was listed without a fault is as long as it should be
 pub listed_long : {A : Type 0} (fault : ℕ → Option Refusal) (item : ℕ → A) (n : ℕ) (xs : List A) → Ok xs ≡ unless (first_of fault n) (listed item n) → length xs ≡ n
-listed_long fault item n xs h = rw (value_of (first_of fault n) (listed item n) xs h) (length-map-range_with_len item 0 n)
+listed_long fault item n xs h = rw (value_of _ _ xs h) (length-map-range_with_len item 0 n)
 
 -- the fields of an instruction keep the rules of its operation
 pub record Row (code a b : ℕ) (c : ℤ) (knobs k : ℕ) : Type 0 where
@@ -84,14 +84,10 @@ module _ (s : List ℕ) where
 
   -- what a reader of a part gave
   pub limit_kept : (limit : ℕ) → Ok limit ≡ unless (limit_fault s) (nat16 s limit_place) → (1 ≤ limit) × (limit ≤ 32768)
-  limit_kept limit h = rw (value_of (limit_fault s) (nat16 s limit_place) limit h) (limit_within (none_of (limit_fault s) (nat16 s limit_place) limit h))
+  limit_kept limit h = rw (value_of _ _ limit h) (limit_within (none_of _ _ limit h))
 
   pub program_kept : (knobs start n : ℕ) (xs : List Instruction) → Ok xs ≡ unless (first_of (instruction_faults s knobs start) n) (listed (instructions_from s start) n) → good_program knobs xs ≡ true
-  program_kept knobs start n xs h =
-      rw (value_of (first_of (instruction_faults s knobs start) n) (listed (instructions_from s start) n) xs h)
-      (program_good knobs start n (none_of _ (listed (instructions_from s start) n) xs h))
+  program_kept knobs start n xs h = rw (value_of _ _ xs h) (program_good knobs start n (none_of _ _ xs h))
 
   pub targets_kept : (registers start n : ℕ) (xs : List Target) → Ok xs ≡ unless (first_of (target_faults s registers start) n) (listed (targets_from s start) n) → good_targets registers xs ≡ true
-  targets_kept registers start n xs h =
-      rw (value_of (first_of (target_faults s registers start) n) (listed (targets_from s start) n) xs h)
-      (targets_good registers start n (none_of _ (listed (targets_from s start) n) xs h))
+  targets_kept registers start n xs h = rw (value_of _ _ xs h) (targets_good registers start n (none_of _ _ xs h))

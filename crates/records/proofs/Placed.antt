@@ -1,5 +1,5 @@
 -- Where each entry of a table stands in its record, and what follows the table.
-use Rattle.std.proofs.Common.{◌≡◌, ℕ, zero, suc, ◌+◌, ◌*◌, ◌<◌, List, [], ◌∷◌, ◌++◌, length, get_or, drop, sym, refl, ap, ◌∙◌, subst, append_assoc, mul-suc, arith, length-append}
+use Rattle.std.proofs.Common.{◌≡◌, ℕ, zero, suc, ◌+◌, ◌*◌, ◌<◌, List, [], ◌∷◌, ◌++◌, length, get_or, drop, sym, refl, ap, ◌∙◌, append_assoc, mul-suc, arith, length-append}
 use Rattle.std.proofs.lemmas.List.FromFn.{fill_by_all}
 use Rattle.std.proofs.lemmas.List.{drop-drop, drop_at}
 use Rattle.std.specs.List.{flat_map}
@@ -28,11 +28,11 @@ module _ {A : Type 0} (f : A → List ℕ) (w : ℕ) (wide : (x : A) → length 
     item_there [] d start e i h = absurd (omega arith)
     item_there (x ∷ xs) d start e zero h =
         let q : start ≡ start + w * 0 = omega arith in
-        (flat_map f xs ++ r, subst (λ (j : ℕ). drop j s ≡ f x ++ (flat_map f xs ++ r)) q (e ∙ append_assoc (f x) (flat_map f xs) r))
+        (flat_map f xs ++ r, rw (← q) (e ∙ append_assoc (f x) (flat_map f xs) r))
     item_there (x ∷ xs) d start e (suc i) h =
         let q : start + w + w * i ≡ start + w * suc i = omega (arith, mul-suc w i) in
         let t = item_there xs d (start + w) (past_one x xs start e) i (omega arith) in
-        (t.0, subst (λ (j : ℕ). drop j s ≡ f (get_or xs i d) ++ t.0) q t.1)
+        (t.0, rw (← q) t.1)
 
     pub table_past : (xs : List A) (start : ℕ) → drop start s ≡ flat_map f xs ++ r → drop (start + w * length xs) s ≡ r
     table_past xs start e = sym (drop-drop (w * length xs) start s) ∙ (ap (drop (w * length xs)) e ∙ drop_at (flat_map f xs) r (w * length xs) (length_joined xs))

@@ -1,5 +1,5 @@
 -- Rules in the order in which they are looked at: the first fault of several checks tells the broken rule that is looked at first.
-use Rattle.std.proofs.Common.{◌≡◌, ℕ, zero, suc, ◌<◌, ◌≤◌, Bool, true, false, ◌||◌, ◌⊎◌, [], ◌∷◌, Some, None, Ok, Err, Decides, Option, Result, sym, refl, ap, subst, inl, inr, ⊎_elim, arith}
+use Rattle.std.proofs.Common.{◌≡◌, ℕ, zero, suc, ◌<◌, ◌≤◌, Bool, true, false, ◌||◌, ◌⊎◌, [], ◌∷◌, Some, None, Ok, Err, Decides, Option, Result, sym, refl, ap, inl, inr, ⊎_elim, arith}
 use Rattle.std.proofs.lemmas.Bool.{both_ways, cases_eq}
 use Rattle.records.specs.declared.reason.Reason.{Reason}
 use Rattle.records.specs.declared.reason.Refusal.{Refusal}
@@ -41,7 +41,7 @@ told_mapped B f (Ok x) t = t
 told_mapped B f (Err d) t = t
 
 pub told_of : {A C : Type 0} (B : Refusal → Type 0) (f : A → C) (r : Result A Refusal) (o : Option Refusal) (x : C) → mapped f r ≡ unless o x → Least B o → Told B r
-told_of {C} B f r o x e l = told_mapped B f r (subst (λ (y : Result C Refusal). Told B y) (sym e) (told_unless B o x l))
+told_of B f r o x e l = told_mapped B f r (rw e (told_unless B o x l))
 
 -- one rule is told at its reason's stage
 pub one_stage : (X : Type 0) (why : Reason) (p : ℕ) (e : Refusal) → One X why p e → stage e.reason ≡ stage why
@@ -96,10 +96,7 @@ pub within_one : (X : Type 0) (why : Reason) (p lo hi : ℕ) → lo ≤ hi → (
 within_one X why p lo hi s h = record { span = s; spot = spot }
   where
     spot : (e : Refusal) → One X why p e → Spot (stage why) lo hi e
-    spot e x =
-        let b = h x.0 in
-        let q : e.place ≡ p = ap (λ (r : Refusal). r.place) x.1 in
-        record { staged = one_stage X why p e x; from = omega (arith, b.0); to = omega (arith, b.1) }
+    spot e x = rw x.1 (record { staged = refl; from = (h x.0).0; to = (h x.0).1 })
 
 pub ranked_when : (b : Bool) (X : Type 0) (why : Reason) (p lo hi : ℕ) → lo ≤ hi → (X → (lo ≤ p) × (p ≤ hi)) → Decides b X → Ranked (stage why) lo hi (One X why p) (when b why p)
 ranked_when b X why p lo hi s h t = record { within = within_one X why p lo hi s h; least = least_when b X why p t }
@@ -114,7 +111,7 @@ twice false true why p = refl
 twice false false why p = refl
 
 pub least_twice : (x y : Bool) (X : Type 0) (why : Reason) (p : ℕ) → Decides (x || y) X → Least (One X why p) (first (when x why p ∷ when y why p ∷ []))
-least_twice x y X why p t = subst (λ (o : Option Refusal). Least (One X why p) o) (sym (twice x y why p)) (least_when (x || y) X why p t)
+least_twice x y X why p t = rw (twice x y why p) (least_when (x || y) X why p t)
 
 -- the same rules
 pub ranked_map : {g lo hi : ℕ} {P : Refusal → Type 0} {o : Option Refusal} (Q : Refusal → Type 0) → ((e : Refusal) → P e → Q e) → ((e : Refusal) → Q e → P e)
@@ -157,7 +154,7 @@ module _ {g : ℕ} (place : ℕ → ℕ) (f : ℕ → Option Refusal) (P : ℕ �
   less : (n : ℕ) (e : Refusal) → Any (suc n) P e → Or (Any n P) (P n) e
   less n e x =
       ⊎_elim
-      (λ (q : x.0 ≡ n). inr (subst (λ (k : ℕ). P k e) q x.2))
+      (λ (q : x.0 ≡ n). inr (rw q at x.2))
       (λ (q : x.0 ≡ n → ⊥). inl (x.0, omega (arith, x.1), x.2))
       (cases_eq x.0 n)
 

@@ -12,7 +12,7 @@ pub found : (f : ℕ → Option Refusal) (k n : ℕ) (d : Refusal) → first_of 
 found f k zero d z e h = absurd (omega arith)
 found f k (suc n) d z e h =
     ⊎_elim
-    (λ (q : k ≡ n). let z' : first_of f n ≡ None = subst (λ (i : ℕ). first_of f i ≡ None) q z in let e' : f n ≡ Some d = subst (λ (i : ℕ). f i ≡ Some d) q e in rw (z', e'))
+    (λ (q : k ≡ n). rw (← q, z, e))
     (λ (q : k ≡ n → ⊥). rw (found f k n d z e (omega arith)))
     (cases_eq k n)
 
@@ -21,7 +21,7 @@ pub each_none : (f : ℕ → Option Refusal) (n k : ℕ) → first_of f n ≡ No
 each_none f zero k e h = absurd (omega arith)
 each_none f (suc n) k e h =
     ⊎_elim
-    (λ (q : k ≡ n). subst (λ (i : ℕ). f i ≡ None) (sym q) (none_right (first_of f n) (f n) e))
+    (λ (q : k ≡ n). rw q (none_right (first_of f n) (f n) e))
     (λ (q : k ≡ n → ⊥). each_none f n k (none_left (first_of f n) (f n) e) (omega arith))
     (cases_eq k n)
 
@@ -48,7 +48,7 @@ every_listed fault item p each zero e = refl
 every_listed {A} fault item p each (suc n) e =
     let q : 0 + length (listed item n) ≡ n = omega (arith, length-map-range_with_len item 0 n) in
     subst (λ (xs : List A). every p 0 xs ≡ true) (sym (listed_more item n))
-    (every_more p 0 (listed item n) (item n) (every_listed fault item p each n (none_left _ _ e)) (subst (λ (i : ℕ). p i (item n) ≡ true) (sym q) (each n (none_right (first_of fault n) _ e))))
+    (every_more p 0 (listed item n) (item n) (every_listed fault item p each n (none_left _ _ e)) (rw q (each n (none_right (first_of fault n) _ e))))
 
 -- a test of each item holds at each number
 pub every_at : {A : Type 0} (p : ℕ → A → Bool) (k : ℕ) (xs : List A) (d : A) → every p k xs ≡ true → (i : ℕ) → i < length xs → p (k + i) (get_or xs i d) ≡ true

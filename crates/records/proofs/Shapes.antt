@@ -1,5 +1,5 @@
 -- The counts of a record without a fault in its layout lie within their limits, and its size is theirs.
-use Rattle.std.proofs.Common.{◌≡◌, ℕ, ◌≤◌, eqb, ltb, leb, List, length, None, Ok, Err, Result, sym, ◌∙◌, subst, arith}
+use Rattle.std.proofs.Common.{◌≡◌, ℕ, ◌≤◌, eqb, ltb, leb, List, length, None, Ok, Err, Result, sym, ◌∙◌, arith}
 use Rattle.std.proofs.lemmas.Bool.{ltb-false, eqb-false}
 use Rattle.records.specs.declared.reason.Reason.TheVariants.{BadShape}
 use Rattle.records.specs.declared.reason.Refusal.{Refusal}
@@ -53,9 +53,8 @@ module _ (s : List ℕ) where
 
   module _ (q : Counts) (h : Ok q ≡ unless (layout_fault s) (counts_in s)) where
     pub shaped_counts : Shaped q (length s)
-    shaped_counts = rw (value_of (layout_fault s) (counts_in s) q h) (shaped s (none_of (layout_fault s) (counts_in s) q h))
+    shaped_counts = rw (value_of _ _ q h) (shaped s (none_of _ _ q h))
 
     pub whole : (r : Result Content Refusal) → r ≡ unless (field_fault s q) (content_in s q) → r ≡ verdict s
     whole r e =
-        subst (λ (x : Counts). r ≡ unless (field_fault s x) (content_in s x)) (value_of (layout_fault s) (counts_in s) q h) e
-        ∙ sym (went (layout_fault s) _ (counts_in s) q _ h)
+        rw (value_of _ _ q h) at e ∙ sym (went (layout_fault s) _ (counts_in s) q _ h)

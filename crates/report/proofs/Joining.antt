@@ -17,7 +17,4 @@ sides_more sides k d h = ap sides_text (map_more ends_of sides k d h) ∙ sides_
 -- a text with the first sides behind it, and then with one more
 pub joined : (sides : List Side) (k : ℕ) (d : Side) (start text after : List ℕ) → k < length sides → d ≡ get_or sides k d → text ≡ start ++ sides_text (map ends_of (take k sides)) → after ≡ text ++ side_text (ends_of d)
     → after ≡ start ++ sides_text (map ends_of (take (k + 1) sides))
-joined sides k d start text after h e p q =
-    q ∙ (λ i. p i ++ side_text (ends_of (e i)))
-    ∙ append_assoc start (sides_text (map ends_of (take k sides))) (side_text (ends_of (get_or sides k d)))
-    ∙ ap (λ t. start ++ t) (sym (sides_more sides k d h))
+joined sides k d start text after h e p q = rw (sides_more sides k d h, ← e) (rw (p, append_assoc) at q)

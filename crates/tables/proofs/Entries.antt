@@ -4,4 +4,4 @@ use Rattle.tables.specs.Tables.{entries}
 use Rattle.tables.specs.declared.table.Table.{Table}
 
 pub entries_few : {T : Type 0} {N : ℕ} (t : Table T N) → length (entries t) ≤ N
-entries_few t = let r = t.room in omega (arith, length-take t.len t.cells)
+entries_few t = omega (arith, length-take t.len t.cells)

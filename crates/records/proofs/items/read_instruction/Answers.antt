@@ -24,13 +24,12 @@ returns c =
     let s = c.args.bytes.now in
     let at = c.args.at in
     let o = c.in-Ok.operation in
-    let e : code_of o ≡ byte s at = c.in-Ok.ensures in
     let kept : Row (code_of o) (byte s (at + 1)) (byte s (at + 2)) (int32 s (at + 3)) c.args.knobs c.args.k = record {
       known = code_below o;
       first_operand = search rules;
       second_operand = search rules;
       number = search rules;
     } in
-    let clean = row_clean at (code_of o) (byte s (at + 1)) (byte s (at + 2)) (int32 s (at + 3)) c.args.knobs c.args.k (byte s at) _ _ _ (sym e) refl refl refl kept in
+    let clean = row_clean at (code_of o) _ _ _ c.args.knobs c.args.k (byte s at) _ _ _ (sym c.in-Ok.ensures) refl refl refl kept in
     let v : c.instruction.result ≡ decoded (code_of o) (byte s (at + 1)) (byte s (at + 2)) (int32 s (at + 3)) = search rules in
     rw clean.1 (ap Ok (v ∙ sym clean.0))

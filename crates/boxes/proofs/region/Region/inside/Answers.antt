@@ -1,4 +1,4 @@
-use Rattle.std.proofs.Common.{nat_eq, ◌≡◌, Bool, true, false, length, sym, ◌∙◌, subst, arith, rules, Decides}
+use Rattle.std.proofs.Common.{nat_eq, ◌≡◌, Bool, true, false, sym, ◌∙◌, subst, arith, rules, Decides}
 use Rattle.std.proofs.lemmas.Iterator.{YieldsList-from_slice, YieldsList-from_zip, cases_from_all}
 use borrow.Author.Tests.{tests}
 use Rattle.tables.specs.Tables.{entries}
@@ -17,10 +17,7 @@ pub returns-then-knobs : goal.returns-then-knobs
 returns-then-knobs c =
     let a = c.args.self.now in
     let b = c.args.other.now in
-    let p = knobs_long a in
-    let q = knobs_long b in
-    let same : length (entries a.sides) ≡ length (entries b.sides) = omega arith in
-    let told = pairs_nested (entries a.sides) (entries b.sides) c.all.result same (
+    let told = pairs_nested (entries a.sides) (entries b.sides) c.all.result (omega (arith, knobs_long a, knobs_long b)) (
     cases_from_all c.all.new.self _ _ (PairCovers true) (PairCovers false) c.all.ensures.ran
     (YieldsList-from_zip (YieldsList-from_slice (entries a.sides) cc) (YieldsList-from_slice (entries b.sides) cc))
     (λ x q k. search (rules, tests)) (λ x q k. search (rules, tests))
@@ -32,5 +29,5 @@ returns-else-knobs c =
     let a = c.args.self.now in
     let b = c.args.other.now in
     let e : nat_eq c.knobs.result c.knobs-2.result ≡ false = search rules in
-    let told = e ∙ sym (nested_not (sides_of a) (sides_of b) (λ n. let k = n.knobs in c.if-knobs.false (omega arith))) in
+    let told = e ∙ sym (nested_not (sides_of a) (sides_of b) (λ n. c.if-knobs.false (omega arith))) in
     record { value = told; decides = decided a b _ told }
