@@ -28,7 +28,7 @@ in_order k L program box s w j h =
 
 -- the plain kind answers just the plain answer
 plain_gives : (e : Ends) (r : Row) → Some r ≡ plain e → ends r ≡ e
-plain_gives e r = plain_by e (λ o. Some r ≡ o → ends r ≡ e) (λ o q. let p : r ≡ row_of e = cc in ap ends p) (λ n q. let z : ◌≡◌ {A = ℕ} 0 1 = cc in absurd (omega arith))
+plain_gives e r = plain_by e (λ o. Some r ≡ o → ends r ≡ e) (λ o q. let p : r ≡ row_of e = cc in ap ends p) (λ n q. absurd (cc))
 
 plain_expected : (box : List Ends) (i : Instruction) (qs : List Row) (r : Row) → Some r ≡ gives plain_kind box i qs → ends r ≡ expected box i qs
 plain_expected box (Const c) qs r q = plain_gives _ r q

@@ -22,10 +22,10 @@ use Rattle.forward_backward.specs.Told.{Left, TurnedTo, boxed}
 -- an answer gives back what is left
 pub left_none : (o : Option (List Row)) (rows : List Row) → Left o None rows → o ≡ None
 left_none None rows h = refl
-left_none (Some q) rows h = let e = h.0 in let z : ◌≡◌ {A = ℕ} 0 1 = cc in absurd (omega arith)
+left_none (Some q) rows h = let e = h.0 in absurd (cc)
 
 pub left_some : (o : Option (List Row)) (rows : List Row) → Left o (Some tt) rows → o ≡ Some rows
-left_some None rows h = let z : ◌≡◌ {A = ℕ} 0 1 = cc in absurd (omega arith)
+left_some None rows h = absurd (cc)
 left_some (Some q) rows h = ap Some (sym h.1)
 
 pub none_left : (o : Option (List Row)) (rows : List Row) → o ≡ None → Left o None rows
@@ -36,10 +36,10 @@ some_left o rows e = rw e (refl, refl)
 
 pub turned_none : (o : Option State) (rows : List Row) → TurnedTo o None rows → o ≡ None
 turned_none None rows h = refl
-turned_none (Some s) rows h = let e = h.0 in let z : ◌≡◌ {A = ℕ} 0 1 = cc in absurd (omega arith)
+turned_none (Some s) rows h = let e = h.0 in absurd (cc)
 
 pub turned_some : (o : Option State) (r : Region) (rows : List Row) → TurnedTo o (Some r) rows → o ≡ Some (record { rows = rows; box = sides_of r })
-turned_some None r rows h = let z : ◌≡◌ {A = ℕ} 0 1 = cc in absurd (omega arith)
+turned_some None r rows h = absurd (cc)
 turned_some (Some s) r rows h =
     let b : sides_of r ≡ s.box = let e = h.0 in cc in
     let q = h.1 in

@@ -29,7 +29,7 @@ large_none c h = rw (le-ltb (bounded_upto c) (length c.program) h)
 
 all_bounded : (c : Content) → large_fault c ≡ None → bounded_upto c ≡ length c.program
 all_bounded c e = ⊎_elim
-    (λ (h : bounded_upto c < length c.program). let t = large_is c h in let z : ◌≡◌ {A = ℕ} 0 1 = cc in absurd (omega arith))
+    (λ (h : bounded_upto c < length c.program). let t = large_is c h in absurd (cc))
     (λ (h : length c.program ≤ bounded_upto c). let u = fill_upto (gives plain_kind c.sides) c.program in omega arith)
     (cases_lt (bounded_upto c) (length c.program))
 
