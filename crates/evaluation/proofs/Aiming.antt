@@ -1,14 +1,12 @@
 -- The targets of a job, and counts of them.
-use Rattle.std.proofs.Common.{ltb, ◌≡◌, ℕ, ◌+◌, ◌^◌, ◌<◌, ◌≤◌, Bool, true, false, cond, ltb, List, length, get_or, take, pos, neg_ℤ, count_by, sym, refl, ap, ◌∙◌, arith, w32, SFits}
+use Rattle.std.proofs.Common.{ltb, ◌≡◌, ℕ, ◌+◌, ◌<◌, ◌≤◌, Bool, true, false, cond, ltb, List, length, get_or, take, count_by, sym, refl, ap, ◌∙◌, arith}
 use mir.Val.{bool_byte}
-use Rattle.std.proofs.lemmas.Int.{ints}
 use Rattle.std.proofs.lemmas.List.Sums.{sum_by_more}
 use Rattle.std.proofs.lemmas.Bool.{and_parts, ltb-true}
 use Rattle.tables.specs.Tables.{entries}
-use Rattle.boxes.proofs.Goods.{between_in}
 use Rattle.records.specs.declared.fields.Fields.{Fields}
 use Rattle.records.specs.declared.target.Target.{Target}
-use Rattle.records.specs.Rules.{bounded, good_target, no_target}
+use Rattle.records.specs.Rules.{good_target, no_target}
 use Rattle.records.proofs.Runs.{every_at}
 
 -- a target names a register that there is

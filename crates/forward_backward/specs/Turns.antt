@@ -3,7 +3,7 @@ use Rattle.std.specs.Prelude.{◌≡◌, ℕ, suc, ◌+◌, ◌<◌, ◌≤◌, 
 use native.Mathlib.Omega.{arith}
 use Rattle.std.proofs.Common.{sym, length-set}
 use Rattle.std.proofs.Math.Path.{ap}
-use Rattle.std.proofs.lemmas.List.{at_drop_more, drop_all}
+use Rattle.std.proofs.lemmas.List.{at_drop_more}
 use Rattle.boxes.specs.Boxes.{Ends, nought}
 use Rattle.boxes.specs.Views.{sides_of}
 use Rattle.boxes.specs.declared.region.Region.{Region}
@@ -17,22 +17,12 @@ use Rattle.jobs.specs.Registers.{Before, no_instruction}
 use Rattle.cutters.specs.Cutting.{and_then}
 use Rattle.forward_backward.specs.Operands.{Earlier, aimed, narrowed, placed}
 use Rattle.forward_backward.specs.Backward.{KnobOf, State, backward, beside, box_of, common, side_cut, turned}
-use Rattle.forward_backward.specs.Told.{Left, TurnedTo, boxed}
+use Rattle.forward_backward.specs.Told.{Left, TurnedTo}
 
 -- an answer gives back what is left
-pub left_none : (o : Option (List Row)) (rows : List Row) → Left o None rows → o ≡ None
-left_none None rows h = refl
-left_none (Some q) rows h = let e = h.0 in absurd (cc)
-
 pub left_some : (o : Option (List Row)) (rows : List Row) → Left o (Some tt) rows → o ≡ Some rows
 left_some None rows h = absurd (cc)
 left_some (Some q) rows h = ap Some (sym h.1)
-
-pub none_left : (o : Option (List Row)) (rows : List Row) → o ≡ None → Left o None rows
-none_left o rows e = rw e refl
-
-pub some_left : (o : Option (List Row)) (rows : List Row) → o ≡ Some rows → Left o (Some tt) rows
-some_left o rows e = rw e (refl, refl)
 
 pub turned_none : (o : Option State) (rows : List Row) → TurnedTo o None rows → o ≡ None
 turned_none None rows h = refl
@@ -44,12 +34,6 @@ turned_some (Some s) r rows h =
     let b : sides_of r ≡ s.box = let e = h.0 in cc in
     let q = h.1 in
     (λ i. Some (record { rows = sym q i; box = sym b i }))
-
-pub none_turned : (o : Option State) (rows : List Row) → o ≡ None → TurnedTo o None rows
-none_turned o rows e = rw e refl
-
-pub some_turned : (o : Option State) (r : Option Region) (rows : List Row) (box : List Ends) → boxed r ≡ Some box → o ≡ Some (record { rows = rows; box = box }) → TurnedTo o r rows
-some_turned o r rows box b e = rw e (b, refl)
 
 -- what an instruction may name, in two parts
 pub earlier : (knobs j : ℕ) (i : Instruction) → Before knobs j i → Earlier j i
@@ -113,6 +97,3 @@ module _ (k : Kind) (n : Keeper) where
   pub aimed_turn : (targets : List Target) (i : ℕ) (rows : List Row) → i < length targets →
       aimed k n (drop i targets) rows ≡ and_then (narrowed k n rows (get_or targets i no_target).register (record { lo = (get_or targets i no_target).low; hi = (get_or targets i no_target).high })) (aimed k n (drop (i + 1) targets))
   aimed_turn targets i rows h = at_drop_more (λ ts. aimed k n ts rows) targets i no_target h
-
-  pub aimed_over : (targets : List Target) (i : ℕ) (rows : List Row) → length targets ≤ i → aimed k n (drop i targets) rows ≡ Some rows
-  aimed_over targets i rows h = ap (λ ts. aimed k n ts rows) (drop_all i targets h)
