@@ -1,17 +1,17 @@
 -- The turns of an evaluation: one register more, from the rows before it.
-use Rattle.std.proofs.Common.{Result, ltb, arith, ◌≡◌, ℕ, ◌+◌, ◌<◌, ◌≤◌, ◌≢◌, List, ◌++◌, length, get_or, take, drop, set, Some, None, sym, refl, ap, ◌∙◌, arith, below_more, Ok, Err}
-use Rattle.std.proofs.lemmas.List.{take_more_set, drop_all, at_drop_more, drop-set-lt, drop-drop, get_or-set_same, get_or-set_other, length-take-le, take-append-drop}
+use Rattle.std.proofs.Common.{arith, ◌≡◌, ℕ, ◌+◌, ◌<◌, ◌≤◌, List, ◌++◌, length, get_or, take, drop, set, Some, None, sym, refl, ap, ◌∙◌, arith, Ok, Err}
+use Rattle.std.proofs.lemmas.List.{take_more_set, drop_all, at_drop_more, length-take-le, take-append-drop}
+use Rattle.std.proofs.lemmas.Grind.{common_steps}
 use Rattle.boxes.specs.Boxes.{Ends}
 use Rattle.boxes.specs.Views.{sides_of}
 use Rattle.boxes.specs.declared.region.Region.{Region}
 use Rattle.ranges.specs.declared.row.Row.{Row}
 use Rattle.ranges.specs.Kind.{Kind, Lawful}
 use Rattle.records.specs.declared.instruction.Instruction.{Instruction}
-use Rattle.std.proofs.lemmas.Bool.{cond_both, le-ltb, lt-ltb, ltb-false, ltb-true}
 use Rattle.records.specs.declared.fields.Fields.{Fields}
 use Rattle.jobs.specs.Meaning.{RowsHold}
 use Rattle.jobs.specs.declared.out_of_bound.OutOfBound.{OutOfBound}
-use Rattle.jobs.specs.Registers.{all_within, onward, fill, gives, no_row, no_instruction, program_of, registers}
+use Rattle.jobs.specs.Registers.{all_within, onward, fill, gives, no_instruction, program_of, registers}
 use Rattle.jobs.proofs.Holding.{region_sided, rows_hold}
 use Rattle.jobs.proofs.Wiring.{region_wired}
 
@@ -30,14 +30,6 @@ module _ (k : Kind) (box : List Ends) (code : List Instruction) (rows : List Row
   unfolding fill
   turns_over h = ap (λ c. fill (gives k box) c (take n rows)) (drop_all n code h)
 
--- one row more, valid too
-pub valid_more : (P : Row → Type 0) (rows : List Row) (n : ℕ) (r : Row) → n < length rows → ((i : ℕ) → i < n → P (get_or rows i no_row)) → P r → (i : ℕ) → i < n + 1 → P (get_or (set rows n r) i no_row)
-valid_more P rows n r m f h = below_more (λ i. P (get_or (set rows n r) i no_row)) n (λ i lt. let ne : i ≢ n = omega arith in rw get_or-set_other (f i lt)) (rw get_or-set_same h)
-
--- the rows past the next stay
-pub rest_more : (rows before : List Row) (n : ℕ) (r : Row) → drop n rows ≡ drop n before → drop (n + 1) (set rows n r) ≡ drop (n + 1) before
-rest_more rows before n r e = drop-set-lt (n + 1) rows n r (omega arith) ∙ sym (drop-drop 1 n rows) ∙ ap (drop 1) e ∙ drop-drop 1 n before
-
 -- over a region with the job's knobs, where n rows are the registers and the others stayed
 pub record Ended (k : Kind) (f : Fields) (r : Region) (rows before : List Row) (n : ℕ) : Type 0 where
   pub count : n ≡ length (registers k (program_of f) (sides_of r))
@@ -52,21 +44,8 @@ ended k L f r q rows before n h e d =
     record { count = count; filled = filled; holds = rows_hold k L (program_of f) (sides_of r) (region_sided r) (region_wired f r q) _ rows _ refl filled }
 
 -- what is told by how many registers are within the bound
-pub some_outside : (n all : ℕ) → n < all → all_within n all ≡ Err (record { register = n })
-some_outside n all h = rw (lt-ltb n all h)
-
-pub none_outside : (n all : ℕ) → all ≤ n → all_within n all ≡ Ok tt
-none_outside n all h = rw (le-ltb n all h)
-
-same_register : (e d : OutOfBound) → ◌≡◌ {A = Result (Unit {0}) OutOfBound} (Err e) (Err d) → e.register ≡ d.register
-same_register e d q = let k : e ≡ d = cc in ap (λ x. x.register) k
-
 pub told_outside : (n all : ℕ) (e : OutOfBound) → Err e ≡ all_within n all → (n < all) × (e.register ≡ n)
-told_outside n all e = cond_both (ltb n all) (Err (record { register = n })) (Ok tt) (λ r. Err e ≡ r → (n < all) × (e.register ≡ n))
-    (λ t q. (ltb-true n all t, same_register e (record { register = n }) q))
-    (λ t q. absurd (cc))
+told_outside n all e h = grind (arith, common_steps)
 
 pub told_all : (n all : ℕ) → Ok tt ≡ all_within n all → all ≤ n
-told_all n all = cond_both (ltb n all) (Err (record { register = n })) (Ok tt) (λ r. Ok tt ≡ r → all ≤ n)
-    (λ t q. absurd (cc))
-    (λ t q. ltb-false n all t)
+told_all n all h = grind (arith, common_steps)

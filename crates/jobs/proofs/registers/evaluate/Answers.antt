@@ -1,8 +1,9 @@
-use Rattle.std.proofs.Common.{◌<◌, ◌≤◌, length, get_or, take, Some, Err, sym, ap, ◌∙◌, arith}
+use Rattle.std.proofs.Common.{◌<◌, ◌≤◌, length, get_or, take, Some, sym, ap, ◌∙◌, arith}
+use Rattle.std.proofs.lemmas.Grind.{common_steps, elements}
 use Rattle.boxes.specs.Views.{sides_of}
 use Rattle.ranges.specs.Kind.{Valid}
-use Rattle.jobs.specs.Registers.{no_instruction, gives, program_of, registers}
-use Rattle.jobs.proofs.Turns.{turn_some, turn_none, turns_over, none_outside, some_outside, valid_more, rest_more, ended}
+use Rattle.jobs.specs.Registers.{no_instruction, gives, program_of}
+use Rattle.jobs.proofs.Turns.{turn_some, turn_none, turns_over, ended}
 use Rattle.jobs.proofs.Wiring.{region_wired}
 use Rattle.jobs.proofs.registers.evaluate.Goals as goal
 
@@ -27,8 +28,7 @@ returns-in_default g c =
     let t = c.in_default.ensures ∙ ap (λ xs. gives m box (get_or xs k no_instruction) (take k rows)) items in
     let e = sym c.loop-k.invariant.1 ∙ turn_none m box code rows k (omega arith) t in
     let w = ended m g.met.R.Range.lawful c.args.fields.now c.args.region.now c.requires.knobs rows c.args.rows.now k n e c.loop-k.invariant.2 in
-    let more : length (registers m code box) < length code = let z = w.count in omega arith in
-    record { told = ap (λ j. Err (record { register = j })) w.count ∙ sym (some_outside _ (length code) more); filled = w.filled; holds = w.holds }
+    record { told = grind (arith, common_steps, w.count); filled = w.filled; holds = w.holds }
 
 pub loop-k-preserved : goal.loop-k-preserved
 loop-k-preserved g c =
@@ -42,11 +42,10 @@ loop-k-preserved g c =
     let l = ap length items in
     let b = c.loop-k-test.true in
     let n : k < length rows = let r = c.requires.room in omega arith in
-    let v : Valid m r = ap m.valid c.to_row.ensures ∙ g.met.R.Range.valid c.in-Some.range in
     let t = ap Some c.to_row.ensures ∙ c.in-Some.ensures ∙ ap (λ xs. gives m box (get_or xs k no_instruction) (take k rows)) items in (
-      valid_more (Valid m) rows k r n c.loop-k.invariant.0 v,
+      (let v : Valid m r = ap m.valid c.to_row.ensures ∙ g.met.R.Range.valid c.in-Some.range in let f = c.loop-k.invariant.0 in grind (arith, elements)),
       sym (turn_some m box code rows k r (omega arith) n t) ∙ c.loop-k.invariant.1,
-      rest_more rows c.args.rows.now k r c.loop-k.invariant.2,
+      grind (arith, common_steps, c.loop-k.invariant.2),
     )
 
 pub returns : goal.returns
@@ -62,5 +61,4 @@ returns g c =
     let n : k ≤ length rows = let r = c.requires.room in omega arith in
     let e = sym c.loop-k.invariant.1 ∙ turns_over m box code rows k (omega arith) in
     let w = ended m g.met.R.Range.lawful c.args.fields.now c.args.region.now c.requires.knobs rows c.args.rows.now k n e c.loop-k.invariant.2 in
-    let all : length code ≤ length (registers m code box) = let z = w.count in omega arith in
-    record { told = sym (none_outside _ (length code) all); filled = w.filled; holds = w.holds }
+    record { told = grind (arith, common_steps, w.count); filled = w.filled; holds = w.holds }
