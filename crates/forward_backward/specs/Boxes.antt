@@ -1,5 +1,5 @@
 -- Cutting a side leaves a box within the box, and loses no setting whose knob reads the register's number.
-use Rattle.std.specs.Prelude.{◌≡◌, ℕ, ◌<◌, true, ◌≢◌, List, length, ℤ, pos, ◌≤ℤ◌, Some, slice_index_or, slice_set, refl}
+use Rattle.std.specs.Prelude.{◌≡◌, ℕ, ◌<◌, true, ◌≢◌, List, length, ℤ, pos, ◌≤ℤ◌, slice_index_or, slice_set, refl}
 use Rattle.std.proofs.Common.{arith, ⊎_elim, subst, length-set}
 use Rattle.std.proofs.lemmas.List.{get_or-set_other, get_or-set_same}
 use Rattle.std.proofs.lemmas.Int.{clamps, ints}
@@ -9,11 +9,11 @@ use Rattle.boxes.specs.Boxes.{Ends, In, Part, good_side, nought}
 use Rattle.boxes.proofs.Goods.{Good, good_in, good_out, side_by, side_some}
 use Rattle.inverses.specs.InverseLaws.{Lies}
 use Rattle.records.specs.declared.instruction.Instruction.{Instruction}
-use Rattle.records.specs.declared.instruction.Instruction.TheVariants.{Const, Knob, Add, Sub, Mul, Sqr, Min, Shr}
 use Rattle.cutters.specs.Cutting.{LeftIn, Proper, StillIn}
 use Rattle.forward_backward.specs.Operands.{placed}
 use Rattle.forward_backward.specs.Backward.{KnobOf, common, side_cut}
 use Rattle.forward_backward.specs.Placing.{at_each}
+use Rattle.forward_backward.specs.Turns.{side_cut_by}
 
 -- what two pairs of ends have in common, where it is a side
 abbrev met : Ends → Ends → Ends
@@ -72,15 +72,5 @@ module _ (box : List Ends) (p : Proper box) (m : ℕ) (l : m < length box) (z : 
         to = λ n h. at_each box m n (met old z) nought (λ a e. slice_index_or setting a (pos 0) ≤ℤ e.hi) l (omega (arith, ints, clamps)) (i.to n (omega arith));
       })
 
-same_inside : (box : List Ends) → Proper box → LeftIn box (Some box)
-same_inside box p = (p, λ setting i. i)
-
 pub cut_inside : (i : Instruction) (z : Ends) (box : List Ends) → Proper box → KnobOf (length box) i → LeftIn box (side_cut i z box)
-cut_inside (Const c) z box p w = same_inside box p
-cut_inside (Knob m) z box p w = knob_inside box p m w z
-cut_inside (Add a b) z box p w = same_inside box p
-cut_inside (Sub a b) z box p w = same_inside box p
-cut_inside (Mul a b) z box p w = same_inside box p
-cut_inside (Sqr a) z box p w = same_inside box p
-cut_inside (Min a b) z box p w = same_inside box p
-cut_inside (Shr a b) z box p w = same_inside box p
+cut_inside i z box p = side_cut_by z box (λ i o. KnobOf (length box) i → LeftIn box o) (λ _ _. (p, λ setting i. i)) (λ m l. knob_inside box p m l z) i

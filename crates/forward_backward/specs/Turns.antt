@@ -65,15 +65,19 @@ placed_long : (box : List Ends) (m : ℕ) (o : Option Ends) → AsLong box (plac
 placed_long box m None = tt
 placed_long box m (Some e) = length-set box m e
 
-pub side_cut_long : (i : Instruction) (z : Ends) (box : List Ends) → AsLong box (side_cut i z box)
-side_cut_long (Const c) z box = refl
-side_cut_long (Knob m) z box = placed_long box m (common (slice_index_or box m nought) z)
-side_cut_long (Add a b) z box = refl
-side_cut_long (Sub a b) z box = refl
-side_cut_long (Mul a b) z box = refl
-side_cut_long (Sqr a) z box = refl
-side_cut_long (Min a b) z box = refl
-side_cut_long (Shr a b) z box = refl
+-- what is so of the box as it is, for every instruction, and of a knob's side cut, is so of what an instruction's side cut leaves
+pub side_cut_by : (z : Ends) (box : List Ends) (P : Instruction → Option (List Ends) → Type 0) → ((i : Instruction) → P i (Some box)) → ((m : ℕ) → P (Knob m) (placed box m (common (slice_index_or box m nought) z))) → (i : Instruction) → P i (side_cut i z box)
+side_cut_by z box P f g (Const c) = f (Const c)
+side_cut_by z box P f g (Knob m) = g m
+side_cut_by z box P f g (Add a b) = f (Add a b)
+side_cut_by z box P f g (Sub a b) = f (Sub a b)
+side_cut_by z box P f g (Mul a b) = f (Mul a b)
+side_cut_by z box P f g (Sqr a) = f (Sqr a)
+side_cut_by z box P f g (Min a b) = f (Min a b)
+side_cut_by z box P f g (Shr a b) = f (Shr a b)
+
+side_cut_long : (i : Instruction) (z : Ends) (box : List Ends) → AsLong box (side_cut i z box)
+side_cut_long i z box = side_cut_by z box (λ _ o. AsLong box o) (λ _. refl) (λ m. placed_long box m (common (slice_index_or box m nought) z)) i
 
 beside_long : (box : List Ends) (o : Option (List Row)) (p : Option (List Ends)) → AsLong box p → AsLong box (box_of (beside o p))
 beside_long box None p l = tt
