@@ -1,6 +1,7 @@
 -- The targets of a job, and counts of them.
 use Rattle.std.proofs.Common.{ltb, ◌≡◌, ℕ, ◌+◌, ◌<◌, ◌≤◌, Bool, true, false, cond, ltb, List, length, get_or, take, count_by, sym, refl, ap, ◌∙◌, arith}
 use mir.Val.{bool_byte}
+use Rattle.std.proofs.lemmas.Grind.{common_steps}
 use Rattle.std.proofs.lemmas.List.Sums.{count_by_more_no, count_by_more_yes}
 use Rattle.std.proofs.lemmas.Bool.{and_parts, ltb-true}
 use Rattle.tables.specs.Tables.{entries}
@@ -11,7 +12,7 @@ use Rattle.records.proofs.Runs.{every_at}
 
 -- a target names a register that there is
 pub aimed_by : (registers : ℕ) (t : Target) → good_target registers t ≡ true → t.register < registers
-aimed_by registers t e = ltb-true _ _ (and_parts (ltb t.register registers) _ e).0
+aimed_by registers t e = grind (arith, common_steps)
 
 pub aimed : (f : Fields) (n : ℕ) → n < length (entries f.targets) → (get_or (entries f.targets) n no_target).register < length (entries f.program)
 aimed f n h = aimed_by (length (entries f.program)) (get_or (entries f.targets) n no_target) (every_at (λ _ x. good_target (length (entries f.program)) x) 0 (entries f.targets) no_target f.aimed n h)

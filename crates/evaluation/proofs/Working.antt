@@ -1,5 +1,6 @@
 -- The rows of a job's registers over a box inside its start box.
 use Rattle.std.proofs.Common.{◌≡◌, ℕ, ◌<◌, ◌≤◌, true, ltb, List, ◌++◌, length, get_or, Some, None, Ok, Option, sym, refl, ap, ◌∙◌, subst, arith}
+use Rattle.std.proofs.lemmas.Grind.{common_steps}
 use Rattle.std.proofs.lemmas.List.{get_or_append_left}
 use Rattle.std.proofs.lemmas.Bool.{cond_both, ltb-false}
 use Rattle.boxes.specs.Boxes.{Ends, nested}
@@ -48,13 +49,8 @@ pub record Fit (c : Content) (box : List Ends) (rows : ℕ) : Type 0 where
   pub inside : nested box c.sides ≡ true
 
 pub fit_in : (c : Content) (box : List Ends) (rows : ℕ) → unfit c box rows ≡ None → Fit c box rows
-fit_in c box rows = cond_both (ltb rows (length c.program)) (Some Scratch) _ (λ o. o ≡ None → Fit c box rows)
-    (λ t e. absurd (cc))
-    (λ f. cond_both (nested box c.sides) None (Some Elsewhere) (λ o. o ≡ None → Fit c box rows)
-    (λ t e. record { room = ltb-false _ _ f; inside = t })
-    (λ g e. absurd (cc)))
+fit_in c box rows e = record { room = grind (arith, common_steps); inside = grind (arith, common_steps) }
 
 -- an answer hangs on no refusal
 pub answered_none : {A : Type 0} (o : Option Unfit) (x y : A) → Ok x ≡ fitting o y → o ≡ None
-answered_none None x y q = refl
-answered_none (Some d) x y q = absurd (cc)
+answered_none o x y q = grind (arith, common_steps)

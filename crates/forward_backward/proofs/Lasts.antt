@@ -1,8 +1,8 @@
 -- The last of the first items of a list, and the items before it; the turn that takes it.
 use Rattle.std.proofs.Common.{◌≡◌, List, [], ◌∷◌, length, get_or, take, Option, refl, sym, ap, ◌∙◌, arith}
 use Rattle.std.specs.List.{IsLastAndRest}
-use Rattle.std.proofs.Math.Seq.{get_or-append_seam}
-use Rattle.std.proofs.lemmas.List.{get_or-take, take-take, take_at}
+use Rattle.std.proofs.lemmas.Grind.{common_steps}
+use Rattle.std.proofs.lemmas.List.{take-take, take_at}
 use Rattle.ranges.specs.Kind.{Keeper, Kind}
 use Rattle.records.specs.declared.instruction.Instruction.{Instruction}
 use Rattle.jobs.specs.Registers.{no_instruction}
@@ -18,10 +18,7 @@ module _ {A : Type 0} (all xs rest : List A) (x : A) (s : IsLastAndRest xs x res
       ∙ take-take (length rest) (length xs) all (omega (arith, s.1))
 
   pub last_at : (d : A) → x ≡ get_or all (length rest) d
-  last_at d =
-      sym (get_or-append_seam rest x [] d)
-      ∙ ap (λ ys. get_or ys (length rest) d) (sym s.0 ∙ e)
-      ∙ get_or-take (length xs) all (length rest) d (omega (arith, s.1))
+  last_at d = grind (arith, common_steps)
 
 -- the last instruction taken backward, and then those before it
 pub last_turn : (k : Kind) (n : Keeper) (all xs rest : List Instruction) (x : Instruction) → IsLastAndRest xs x rest → xs ≡ take (length xs) all → (s : State) (o : Option State) → turned k n x (length rest) s ≡ o

@@ -1,8 +1,9 @@
 -- What the code's answers say of what is left, and the turns of its loops.
 use Rattle.std.specs.Prelude.{◌≡◌, ℕ, suc, ◌+◌, ◌<◌, ◌≤◌, List, length, get_or, drop, Some, None, Option, slice_index_or, refl}
 use native.Mathlib.Omega.{arith}
-use Rattle.std.proofs.Common.{sym, length-set}
+use Rattle.std.proofs.Common.{length-set}
 use Rattle.std.proofs.Math.Path.{ap}
+use Rattle.std.proofs.lemmas.Grind.{common_steps}
 use Rattle.std.proofs.lemmas.List.{at_drop_more}
 use Rattle.boxes.specs.Boxes.{Ends, nought}
 use Rattle.boxes.specs.Views.{sides_of}
@@ -21,19 +22,13 @@ use Rattle.forward_backward.specs.Told.{Left, TurnedTo}
 
 -- an answer gives back what is left
 pub left_some : (o : Option (List Row)) (rows : List Row) → Left o (Some tt) rows → o ≡ Some rows
-left_some None rows h = absurd (cc)
-left_some (Some q) rows h = ap Some (sym h.1)
+left_some o rows h = grind (arith, common_steps)
 
 pub turned_none : (o : Option State) (rows : List Row) → TurnedTo o None rows → o ≡ None
-turned_none None rows h = refl
-turned_none (Some s) rows h = let e = h.0 in absurd (cc)
+turned_none o rows h = grind (arith, common_steps)
 
 pub turned_some : (o : Option State) (r : Region) (rows : List Row) → TurnedTo o (Some r) rows → o ≡ Some (record { rows = rows; box = sides_of r })
-turned_some None r rows h = absurd (cc)
-turned_some (Some s) r rows h =
-    let b : sides_of r ≡ s.box = let e = h.0 in cc in
-    let q = h.1 in
-    (λ i. Some (record { rows = sym q i; box = sym b i }))
+turned_some o r rows h = grind (arith, common_steps)
 
 -- what an instruction may name, in two parts
 pub earlier : (knobs j : ℕ) (i : Instruction) → Before knobs j i → Earlier j i
