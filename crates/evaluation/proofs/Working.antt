@@ -1,8 +1,7 @@
 -- The rows of a job's registers over a box inside its start box.
-use Rattle.std.proofs.Common.{◌≡◌, ℕ, ◌<◌, ◌≤◌, true, ltb, List, ◌++◌, length, get_or, Some, None, Ok, Option, sym, refl, ap, ◌∙◌, subst, arith}
+use Rattle.std.proofs.Common.{◌≡◌, ℕ, ◌<◌, ◌≤◌, true, List, ◌++◌, length, get_or, None, Ok, Option, sym, ap, ◌∙◌, subst, arith}
 use Rattle.std.proofs.lemmas.Grind.{common_steps}
 use Rattle.std.proofs.lemmas.List.{get_or_append_left}
-use Rattle.std.proofs.lemmas.Bool.{cond_both, ltb-false}
 use Rattle.boxes.specs.Boxes.{Ends, nested}
 use Rattle.boxes.specs.Views.{sides_of}
 use Rattle.boxes.specs.declared.region.Region.{Region}
@@ -16,7 +15,6 @@ use Rattle.jobs.specs.Registers.{Wired, no_row, program_of, registers}
 use Rattle.jobs.proofs.Holding.{region_sided, rows_hold}
 use Rattle.jobs.proofs.Wiring.{region_wired}
 use Rattle.evaluation.specs.declared.unfit.Unfit.{Unfit}
-use Rattle.evaluation.specs.declared.unfit.Unfit.TheVariants.{Scratch, Elsewhere}
 use Rattle.evaluation.specs.Laws.{Evaluated}
 use Rattle.evaluation.specs.Scratch.{fitting, unfit}
 use Rattle.evaluation.proofs.Growing.{all_registers}

@@ -1,5 +1,5 @@
 -- Cutting a side leaves a box within the box, and loses no setting whose knob reads the register's number.
-use Rattle.std.specs.Prelude.{◌≡◌, ℕ, ◌<◌, true, List, length, ℤ, pos, ◌≤ℤ◌, slice_index_or, slice_set}
+use Rattle.std.specs.Prelude.{◌≡◌, ℕ, ◌<◌, true, List, length, ℤ, pos, slice_index_or, slice_set}
 use Rattle.std.proofs.Common.{arith, length-set}
 use Rattle.std.proofs.lemmas.Grind.{elements}
 use Rattle.std.proofs.lemmas.Int.{clamps, ints}
@@ -58,8 +58,8 @@ module _ (box : List Ends) (p : Proper box) (m : ℕ) (l : m < length box) (z : 
       let s = i.knobs in
       rw (side_some (met old z) g) (record {
         knobs = omega arith;
-        from = λ n h. at_each box m n (met old z) nought (λ a e. e.lo ≤ℤ slice_index_or setting a (pos 0)) l (omega (arith, ints, clamps)) (i.from n (omega arith));
-        to = λ n h. at_each box m n (met old z) nought (λ a e. slice_index_or setting a (pos 0) ≤ℤ e.hi) l (omega (arith, ints, clamps)) (i.to n (omega arith));
+        from = λ n h. let a = i.from n (omega arith) in grind (arith, elements, ints, clamps);
+        to = λ n h. let a = i.to n (omega arith) in grind (arith, elements, ints, clamps);
       })
 
 pub cut_inside : (i : Instruction) (z : Ends) (box : List Ends) → Proper box → KnobOf (length box) i → LeftIn box (side_cut i z box)

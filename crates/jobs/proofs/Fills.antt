@@ -1,7 +1,7 @@
 -- A list that is filled step by step.
 use Rattle.std.proofs.Common.{◌≡◌, ℕ, zero, suc, ◌+◌, ◌<◌, ◌≤◌, List, [], ◌∷◌, ◌++◌, length, get_or, take, Some, None, Option, sym, refl, ap, ◌∙◌, subst, add-zero, zero-add, arith}
 use Rattle.std.proofs.lemmas.Grind.{common_steps}
-use Rattle.std.proofs.lemmas.List.{take_all, take_at, take-take, get_or-take, length_push, get_or_push}
+use Rattle.std.proofs.lemmas.List.{take_all, take_at, take-take, length_push}
 use Rattle.records.specs.declared.instruction.Instruction.{Instruction}
 use Rattle.jobs.specs.Registers.{onward, fill}
 

@@ -1,8 +1,8 @@
-use Rattle.std.proofs.Common.{◌<◌, ◌≤◌, length, get_or, take, Some, sym, ap, ◌∙◌, arith}
+use Rattle.std.proofs.Common.{◌<◌, ◌≤◌, length, Some, sym, ap, ◌∙◌, arith}
 use Rattle.std.proofs.lemmas.Grind.{common_steps, elements}
 use Rattle.boxes.specs.Views.{sides_of}
 use Rattle.ranges.specs.Kind.{Valid}
-use Rattle.jobs.specs.Registers.{no_instruction, gives, program_of}
+use Rattle.jobs.specs.Registers.{program_of}
 use Rattle.jobs.proofs.Turns.{turn_some, turn_none, turns_over, ended}
 use Rattle.jobs.proofs.Wiring.{region_wired}
 use Rattle.jobs.proofs.registers.evaluate.Goals as goal
@@ -25,7 +25,7 @@ returns-in_default g c =
     let l = ap length items in
     let b = c.loop-k-test.true in
     let n : k ≤ length rows = let r = c.requires.room in omega arith in
-    let t = c.in_default.ensures ∙ ap (λ xs. gives m box (get_or xs k no_instruction) (take k rows)) items in
+    let t = rw items at c.in_default.ensures in
     let e = sym c.loop-k.invariant.1 ∙ turn_none m box code rows k (omega arith) t in
     let w = ended m g.met.R.Range.lawful c.args.fields.now c.args.region.now c.requires.knobs rows c.args.rows.now k n e c.loop-k.invariant.2 in
     record { told = grind (arith, common_steps, w.count); filled = w.filled; holds = w.holds }
@@ -42,7 +42,7 @@ loop-k-preserved g c =
     let l = ap length items in
     let b = c.loop-k-test.true in
     let n : k < length rows = let r = c.requires.room in omega arith in
-    let t = ap Some c.to_row.ensures ∙ c.in-Some.ensures ∙ ap (λ xs. gives m box (get_or xs k no_instruction) (take k rows)) items in (
+    let t = ap Some c.to_row.ensures ∙ rw items at c.in-Some.ensures in (
       (let v : Valid m r = ap m.valid c.to_row.ensures ∙ g.met.R.Range.valid c.in-Some.range in let f = c.loop-k.invariant.0 in grind (arith, elements)),
       sym (turn_some m box code rows k r (omega arith) n t) ∙ c.loop-k.invariant.1,
       grind (arith, common_steps, c.loop-k.invariant.2),
