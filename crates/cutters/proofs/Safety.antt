@@ -1,5 +1,5 @@
 -- What a lawful cutter's answer says of the box that it was lent.
-use Rattle.std.proofs.Common.{◌≡◌, Bool, true, false, List, length, get_or, ℤ, is_some, Some, None, Option, unwrap_or, sym, ap, ◌∙◌, arith}
+use Rattle.std.proofs.Common.{◌≡◌, Bool, List, length, get_or, ℤ, is_some, Some, None, Option, unwrap_or, sym, ap, arith}
 use Rattle.std.proofs.lemmas.Bool.{false≢true, true≢false}
 use Rattle.tables.specs.Tables.{entries}
 use Rattle.tables.proofs.Entries.{entries_few}
@@ -51,11 +51,8 @@ pub record Answers (f : Meaning) (j : Job) (r : Region) (rows : List Row) (answe
   pub safe : Safe (content_of j) (sides_of r) answer after
 
 module _ (f : Meaning) (F : Lawful f) (j : Job) (r : Region) (rows : List Row) where
-  answers : (answer : Bool) (after : List Ends) → answer ≡ is_some (cut_to f j r rows) → after ≡ unwrap_or (cut_to f j r rows) (sides_of r) → Answers f j r rows answer after
-  answers answer after t l = record { told = t; left = l; safe = safe f F j r rows answer after t l }
-
-  pub left_nothing : (after : List Ends) → cut_to f j r rows ≡ None → after ≡ sides_of r → Answers f j r rows false after
-  left_nothing after e q = answers false after (ap is_some (sym e)) (q ∙ ap (λ o. unwrap_or o (sides_of r)) (sym e))
-
-  pub left_box : (after : List Ends) → cut_to f j r rows ≡ Some after → Answers f j r rows true after
-  left_box after e = answers true after (ap is_some (sym e)) (ap (λ o. unwrap_or o (sides_of r)) (sym e))
+  pub left_is : (o : Option (List Ends)) → cut_to f j r rows ≡ o → Answers f j r rows (is_some o) (unwrap_or o (sides_of r))
+  left_is o e =
+      let t = ap is_some (sym e) in
+      let l = ap (λ x. unwrap_or x (sides_of r)) (sym e) in
+      record { told = t; left = l; safe = safe f F j r rows _ _ t l }

@@ -1,7 +1,6 @@
 -- Over a box inside one where every plain register is within the bound, no register of any kind is too large.
-use Rattle.std.proofs.Common.{◌≡◌, ℕ, ◌<◌, ◌≤◌, List, length, get_or, ◌≤ℤ◌, Some, sym, ap, subst, ⊎_elim, arith}
+use Rattle.std.proofs.Common.{◌≡◌, ℕ, ◌<◌, List, length, get_or, ◌≤ℤ◌, Some, sym, ap, subst, arith}
 use Rattle.std.proofs.lemmas.Int.{ints}
-use Rattle.std.proofs.lemmas.Bool.{cases_lt}
 use Rattle.boxes.specs.Boxes.{Ends, nought}
 use Rattle.boxes.proofs.Nesting.{Nested}
 use Rattle.ranges.specs.declared.row.Row.{Row}
@@ -28,7 +27,7 @@ in_order k L program box s w j h =
 
 -- the plain kind answers just the plain answer
 plain_gives : (e : Ends) (r : Row) → Some r ≡ plain e → ends r ≡ e
-plain_gives e r = plain_by e (λ o. Some r ≡ o → ends r ≡ e) (λ o q. let p : r ≡ row_of e = cc in ap ends p) (λ n q. let z : ◌≡◌ {A = ℕ} 0 1 = cc in absurd (omega arith))
+plain_gives e r = plain_by e (λ o. Some r ≡ o → ends r ≡ e) (λ o q. let p : r ≡ row_of e = cc in ap ends p) (λ n q. absurd (cc))
 
 plain_expected : (box : List Ends) (i : Instruction) (qs : List Row) (r : Row) → Some r ≡ gives plain_kind box i qs → ends r ≡ expected box i qs
 plain_expected box (Const c) qs r q = plain_gives _ r q
@@ -83,7 +82,4 @@ module _ (k : Kind) (L : Lawful k) (program : List Instruction) (box other : Lis
       subst (Answer k (expected box i Q) (Results k box i Q)) (fill_stops (gives k box) program no_instruction h) a (bounded_in _ _ n b)
 
   pub all_registers : length P ≡ length program → length Q ≡ length program
-  all_registers e = ⊎_elim
-      (λ (h : length Q < length program). absurd (never e h))
-      (λ (h : length program ≤ length Q). let u = fill_upto (gives k box) program in omega arith)
-      (cases_lt (length Q) (length program))
+  all_registers e = let u = fill_upto (gives k box) program in let n : length Q < length program → ⊥ = never e in omega arith

@@ -1,21 +1,17 @@
 -- Counts of what passes a test: all, some, or one of two tests each.
-use Rattle.std.proofs.Common.{◌≡◌, ℕ, zero, suc, ◌+◌, ◌<◌, Bool, true, false, cond, ◌⊎◌, List, [], ◌∷◌, length, get_or, count_by, sym, refl, ap, ◌∙◌, inl, inr, ⊎_elim, arith}
+use Rattle.std.proofs.Common.{◌≡◌, ℕ, zero, suc, ◌+◌, ◌<◌, Bool, true, false, cond, ◌⊎◌, List, [], ◌∷◌, length, get_or, count_by, refl, ap, ◌∙◌, inl, inr, ⊎_elim, arith}
+use Rattle.std.proofs.lemmas.Grind.{common_steps}
 use Rattle.std.proofs.lemmas.List.Sums.{count_by-le-length, sum_by-cons}
 
 module _ {A : Type 0} (p : A → Bool) where
   counted : (x : A) (xs : List A) (b : Bool) → p x ≡ b → count_by p (x ∷ xs) ≡ cond b 1 0 + count_by p xs
   counted x xs b e = sum_by-cons (λ y. cond (p y) 1 0) x xs ∙ ap (λ t. cond t 1 0 + count_by p xs) e
 
-  all_by : (x : A) (xs : List A) (d : A) (b : Bool) → p x ≡ b → count_by p (x ∷ xs) ≡ length (x ∷ xs) →
-      (count_by p xs ≡ length xs → (n : ℕ) → n < length xs → p (get_or xs n d) ≡ true) → (n : ℕ) → n < length (x ∷ xs) → p (get_or (x ∷ xs) n d) ≡ true
-  all_by x xs d true q e rest zero h = q
-  all_by x xs d true q e rest (suc n) h = let c = counted x xs true q in rest (omega arith) n (omega arith)
-  all_by x xs d false q e rest n h = let c = counted x xs false q in let u = count_by-le-length p xs in absurd (omega arith)
-
   -- where as many pass as there are, each does
   pub all_pass : (xs : List A) (d : A) → count_by p xs ≡ length xs → (n : ℕ) → n < length xs → p (get_or xs n d) ≡ true
   all_pass [] d e n h = absurd (omega arith)
-  all_pass (x ∷ xs) d e n h = all_by x xs d (p x) refl e (all_pass xs d) n h
+  all_pass (x ∷ xs) d e zero h = let u = count_by-le-length p xs in grind (arith, common_steps, sum_by-cons)
+  all_pass (x ∷ xs) d e (suc n) h = let u = count_by-le-length p xs in all_pass xs d (grind (arith, common_steps, sum_by-cons)) n (omega arith)
 
   abbrev One : List A → A → Type 0
   One xs d = (n : ℕ) × (n < length xs) × (p (get_or xs n d) ≡ true)
@@ -44,9 +40,4 @@ all_or_some p q (x ∷ xs) d f = ⊎_elim
 -- tests that agree on each count the same
 pub count_same : {A : Type 0} (p q : A → Bool) (xs : List A) (d : A) → ((n : ℕ) → n < length xs → p (get_or xs n d) ≡ q (get_or xs n d)) → count_by p xs ≡ count_by q xs
 count_same p q [] d f = refl
-count_same p q (x ∷ xs) d f =
-    let a = counted p x xs (p x) refl in
-    let b = counted q x xs (q x) refl in
-    let r = count_same p q xs d (λ n h. f (suc n) (omega arith)) in
-    let e = ap (λ t. cond t 1 0) (f 0 (omega arith)) in
-    a ∙ (λ i. e i + r i) ∙ sym b
+count_same p q (x ∷ xs) d f = rw (sum_by-cons, sum_by-cons, f 0 (omega arith), count_same p q xs d (λ n h. f (suc n) (omega arith))) refl

@@ -1,7 +1,7 @@
 -- The rows of a job's registers over a box inside its start box.
-use Rattle.std.proofs.Common.{◌≡◌, ℕ, ◌<◌, ◌≤◌, true, ltb, List, ◌++◌, length, get_or, Some, None, Ok, Err, Option, sym, refl, ap, ◌∙◌, subst, arith}
+use Rattle.std.proofs.Common.{◌≡◌, ℕ, ◌<◌, ◌≤◌, true, List, ◌++◌, length, get_or, None, Ok, Option, sym, ap, ◌∙◌, subst, arith}
+use Rattle.std.proofs.lemmas.Grind.{common_steps}
 use Rattle.std.proofs.lemmas.List.{get_or_append_left}
-use Rattle.std.proofs.lemmas.Bool.{cond_both, le-ltb, ltb-false}
 use Rattle.boxes.specs.Boxes.{Ends, nested}
 use Rattle.boxes.specs.Views.{sides_of}
 use Rattle.boxes.specs.declared.region.Region.{Region}
@@ -15,8 +15,7 @@ use Rattle.jobs.specs.Registers.{Wired, no_row, program_of, registers}
 use Rattle.jobs.proofs.Holding.{region_sided, rows_hold}
 use Rattle.jobs.proofs.Wiring.{region_wired}
 use Rattle.evaluation.specs.declared.unfit.Unfit.{Unfit}
-use Rattle.evaluation.specs.declared.unfit.Unfit.TheVariants.{Scratch, Elsewhere}
-use Rattle.evaluation.specs.Laws.{Evaluated, Refused}
+use Rattle.evaluation.specs.Laws.{Evaluated}
 use Rattle.evaluation.specs.Scratch.{fitting, unfit}
 use Rattle.evaluation.proofs.Growing.{all_registers}
 use Rattle.evaluation.proofs.Single.{holds_only}
@@ -42,35 +41,14 @@ module _ (k : Kind) (L : Lawful k) (j : Job) (r : Region) (n : Nested (sides_of 
             holds_only k L (program_of j.fields) (sides_of r) (region_sided r) wired_here s only i l x (subst (λ y. Holds k y x) g q);
       }
 
--- enough rows and a box inside the start box are fit
-pub fit_here : (c : Content) (box : List Ends) (rows : ℕ) → length c.program ≤ rows → nested box c.sides ≡ true → unfit c box rows ≡ None
-fit_here c box rows h e = rw (le-ltb rows (length c.program) h, e)
-
+-- what is fit has enough rows and a box inside the start box
 pub record Fit (c : Content) (box : List Ends) (rows : ℕ) : Type 0 where
   pub room : length c.program ≤ rows
   pub inside : nested box c.sides ≡ true
 
 pub fit_in : (c : Content) (box : List Ends) (rows : ℕ) → unfit c box rows ≡ None → Fit c box rows
-fit_in c box rows = cond_both (ltb rows (length c.program)) (Some Scratch) _ (λ o. o ≡ None → Fit c box rows)
-    (λ t e. let z : ◌≡◌ {A = ℕ} 0 1 = cc in absurd (omega arith))
-    (λ f. cond_both (nested box c.sides) None (Some Elsewhere) (λ o. o ≡ None → Fit c box rows)
-    (λ t e. record { room = ltb-false _ _ f; inside = t })
-    (λ g e. let z : ◌≡◌ {A = ℕ} 0 1 = cc in absurd (omega arith)))
+fit_in c box rows e = record { room = grind (arith, common_steps); inside = grind (arith, common_steps) }
 
--- a refusal hangs on nothing that would have been answered, and an answer on no refusal
-pub refused_alike : {A B : Type 0} (o : Option Unfit) (e : Unfit) (x : A) (y : B) → Err e ≡ fitting o x → Err e ≡ fitting o y
-refused_alike None e x y q = let z : ◌≡◌ {A = ℕ} 0 1 = cc in absurd (omega arith)
-refused_alike (Some d) e x y q = let p : e ≡ d = cc in ap Err p
-
+-- an answer hangs on no refusal
 pub answered_none : {A : Type 0} (o : Option Unfit) (x y : A) → Ok x ≡ fitting o y → o ≡ None
-answered_none None x y q = refl
-answered_none (Some d) x y q = let z : ◌≡◌ {A = ℕ} 0 1 = cc in absurd (omega arith)
-
-pub answered_value : {A : Type 0} (o : Option Unfit) (x y : A) → Ok x ≡ fitting o y → x ≡ y
-answered_value None x y q = cc
-answered_value (Some d) x y q = let z : ◌≡◌ {A = ℕ} 0 1 = cc in absurd (omega arith)
-
--- the start box itself is never refused, given enough rows
-pub start_fits : (c : Content) (rows : ℕ) (e : Unfit) → length c.program ≤ rows → Refused c c.sides rows e → ⊥
-start_fits c rows Scratch h r = omega arith
-start_fits c rows Elsewhere h r = r (λ s i. i)
+answered_none o x y q = grind (arith, common_steps)

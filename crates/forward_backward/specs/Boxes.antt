@@ -1,19 +1,18 @@
 -- Cutting a side leaves a box within the box, and loses no setting whose knob reads the register's number.
-use Rattle.std.specs.Prelude.{◌≡◌, ℕ, ◌<◌, true, ◌≢◌, List, length, ℤ, pos, ◌≤ℤ◌, Some, slice_index_or, slice_set, refl}
-use Rattle.std.proofs.Common.{arith, ⊎_elim, subst, length-set}
-use Rattle.std.proofs.lemmas.List.{get_or-set_other, get_or-set_same}
+use Rattle.std.specs.Prelude.{◌≡◌, ℕ, ◌<◌, true, List, length, ℤ, pos, slice_index_or, slice_set}
+use Rattle.std.proofs.Common.{arith, length-set}
+use Rattle.std.proofs.lemmas.Grind.{elements}
 use Rattle.std.proofs.lemmas.Int.{clamps, ints}
-use Rattle.std.proofs.lemmas.Bool.{cases_eq}
 use Rattle.std.specs.Int.{int_max, int_min}
 use Rattle.boxes.specs.Boxes.{Ends, In, Part, good_side, nought}
 use Rattle.boxes.proofs.Goods.{Good, good_in, good_out, side_by, side_some}
 use Rattle.inverses.specs.InverseLaws.{Lies}
 use Rattle.records.specs.declared.instruction.Instruction.{Instruction}
-use Rattle.records.specs.declared.instruction.Instruction.TheVariants.{Const, Knob, Add, Sub, Mul, Sqr, Min, Shr}
 use Rattle.cutters.specs.Cutting.{LeftIn, Proper, StillIn}
 use Rattle.forward_backward.specs.Operands.{placed}
 use Rattle.forward_backward.specs.Backward.{KnobOf, common, side_cut}
 use Rattle.forward_backward.specs.Placing.{at_each}
+use Rattle.forward_backward.specs.Turns.{side_cut_by}
 
 -- what two pairs of ends have in common, where it is a side
 abbrev met : Ends → Ends → Ends
@@ -41,18 +40,9 @@ module _ (box : List Ends) (p : Proper box) (m : ℕ) (l : m < length box) (z : 
       let s = i.knobs in
       record {
         knobs = omega arith;
-        from = λ n h. back n h (λ e. e.lo ≤ℤ slice_index_or setting n (pos 0)) (λ (q : n ≡ m). let a = subst (λ x. (met old z).lo ≤ℤ slice_index_or setting x (pos 0)) q (subst (λ e. e.lo ≤ℤ slice_index_or setting n (pos 0)) (here n h q) (i.from n (omega arith))) in rw q (omega (arith, ints, clamps))) (i.from n (omega arith));
-        to = λ n h. back n h (λ e. slice_index_or setting n (pos 0) ≤ℤ e.hi) (λ (q : n ≡ m). let a = subst (λ x. slice_index_or setting x (pos 0) ≤ℤ (met old z).hi) q (subst (λ e. slice_index_or setting n (pos 0) ≤ℤ e.hi) (here n h q) (i.to n (omega arith))) in rw q (omega (arith, ints, clamps))) (i.to n (omega arith));
+        from = λ n h. let a = i.from n (omega arith) in grind (arith, elements, ints, clamps);
+        to = λ n h. let a = i.to n (omega arith) in grind (arith, elements, ints, clamps);
       }
-    where
-      here : (n : ℕ) → n < length box → n ≡ m → slice_index_or (slice_set box m (met old z)) n nought ≡ met old z
-      here n h q = rw (q, get_or-set_same) refl
-
-      back : (n : ℕ) → n < length box → (P : Ends → Type 0) → (n ≡ m → P (slice_index_or box n nought)) → P (slice_index_or (slice_set box m (met old z)) n nought) → P (slice_index_or box n nought)
-      back n h P f g = ⊎_elim
-          (λ (q : n ≡ m). f q)
-          (λ (d : n ≡ m → ⊥). let ne : n ≢ m = d in rw get_or-set_other at g)
-          (cases_eq n m)
 
   knob_inside : LeftIn box (placed box m (common old z))
   knob_inside = side_by (met old z) (λ o. LeftIn box (placed box m o)) (λ g. (cut_proper g, cut_part)) (λ _. tt)
@@ -68,19 +58,9 @@ module _ (box : List Ends) (p : Proper box) (m : ℕ) (l : m < length box) (z : 
       let s = i.knobs in
       rw (side_some (met old z) g) (record {
         knobs = omega arith;
-        from = λ n h. at_each box m n (met old z) nought (λ a e. e.lo ≤ℤ slice_index_or setting a (pos 0)) l (omega (arith, ints, clamps)) (i.from n (omega arith));
-        to = λ n h. at_each box m n (met old z) nought (λ a e. slice_index_or setting a (pos 0) ≤ℤ e.hi) l (omega (arith, ints, clamps)) (i.to n (omega arith));
+        from = λ n h. let a = i.from n (omega arith) in grind (arith, elements, ints, clamps);
+        to = λ n h. let a = i.to n (omega arith) in grind (arith, elements, ints, clamps);
       })
 
-same_inside : (box : List Ends) → Proper box → LeftIn box (Some box)
-same_inside box p = (p, λ setting i. i)
-
 pub cut_inside : (i : Instruction) (z : Ends) (box : List Ends) → Proper box → KnobOf (length box) i → LeftIn box (side_cut i z box)
-cut_inside (Const c) z box p w = same_inside box p
-cut_inside (Knob m) z box p w = knob_inside box p m w z
-cut_inside (Add a b) z box p w = same_inside box p
-cut_inside (Sub a b) z box p w = same_inside box p
-cut_inside (Mul a b) z box p w = same_inside box p
-cut_inside (Sqr a) z box p w = same_inside box p
-cut_inside (Min a b) z box p w = same_inside box p
-cut_inside (Shr a b) z box p w = same_inside box p
+cut_inside i z box p = side_cut_by z box (λ i o. KnobOf (length box) i → LeftIn box o) (λ _ _. (p, λ setting i. i)) (λ m l. knob_inside box p m l z) i

@@ -10,7 +10,6 @@ use Rattle.ranges.specs.declared.row.Row.{Row}
 use Rattle.ranges.specs.Kind.{Keeper, Keeping, Kind, Lawful as LawfulKind}
 use Rattle.inverses.specs.InverseLaws.{Lies}
 use Rattle.records.specs.declared.instruction.Instruction.{Instruction}
-use Rattle.records.specs.declared.instruction.Instruction.TheVariants.{Const, Knob, Add, Sub, Mul, Sqr, Min, Shr}
 use Rattle.records.specs.declared.target.Target.{Target}
 use Rattle.records.specs.Rules.{Content, good_target, no_target}
 use Rattle.records.proofs.Runs.{every_at}
@@ -30,7 +29,7 @@ use Rattle.forward_backward.specs.Backward.{KnobOf, State, backward, beside, box
 use Rattle.forward_backward.specs.Narrowing.{Holding, Obeys, StillHolding}
 use Rattle.forward_backward.specs.Boxes.{cut_inside, knob_keeps}
 use Rattle.forward_backward.specs.Keeping.{narrow_keeps, number_lies, operands_keep, then_keeps}
-use Rattle.forward_backward.specs.Turns.{AsLong, earlier, knob_of, turned_long}
+use Rattle.forward_backward.specs.Turns.{AsLong, earlier, knob_of, side_cut_by, turned_long}
 
 -- a box of knobs' sides has sides in order and within the bound
 proper_sided : (box : List Ends) → Proper box → Sided box
@@ -65,14 +64,8 @@ box_there k vs m setting (Some s) h = h.2
 
 -- the knob of an instruction reads the register's number
 cut_keeps : (setting vs : List ℤ) (i : Instruction) (j : ℕ) (z : Ends) (box : List Ends) → Proper box → KnobOf (length box) i → In box setting → Obeys (knob_at setting) vs i j → Lies z (slice_index_or vs j (pos 0)) → StillIn setting (side_cut i z box)
-cut_keeps setting vs (Const c) j z box p w i o u = i
-cut_keeps setting vs (Knob m) j z box p w i o u = knob_keeps box p m w z setting i (subst (Lies z) o u)
-cut_keeps setting vs (Add a b) j z box p w i o u = i
-cut_keeps setting vs (Sub a b) j z box p w i o u = i
-cut_keeps setting vs (Mul a b) j z box p w i o u = i
-cut_keeps setting vs (Sqr a) j z box p w i o u = i
-cut_keeps setting vs (Min a b) j z box p w i o u = i
-cut_keeps setting vs (Shr a b) j z box p w i o u = i
+cut_keeps setting vs i j z box p w s o u =
+    side_cut_by z box (λ i q. KnobOf (length box) i → Obeys (knob_at setting) vs i j → StillIn setting q) (λ _ _ _. s) (λ m l e. knob_keeps box p m l z setting s (subst (Lies z) e u)) i w o
 
 -- rows, box and setting as one instruction leaves them, and then those before it
 then_there : (k : Kind) (vs : List ℤ) (m : ℕ) (setting : List ℤ) (box : List Ends) (o : Option State) (f : State → Option State) → StillThere k vs m setting o → LeftIn box (box_of o) → AsLong box (box_of o) →

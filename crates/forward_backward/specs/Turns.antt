@@ -1,9 +1,10 @@
 -- What the code's answers say of what is left, and the turns of its loops.
 use Rattle.std.specs.Prelude.{◌≡◌, ℕ, suc, ◌+◌, ◌<◌, ◌≤◌, List, length, get_or, drop, Some, None, Option, slice_index_or, refl}
 use native.Mathlib.Omega.{arith}
-use Rattle.std.proofs.Common.{sym, length-set}
+use Rattle.std.proofs.Common.{length-set}
 use Rattle.std.proofs.Math.Path.{ap}
-use Rattle.std.proofs.lemmas.List.{at_drop_more, drop_all}
+use Rattle.std.proofs.lemmas.Grind.{common_steps}
+use Rattle.std.proofs.lemmas.List.{at_drop_more}
 use Rattle.boxes.specs.Boxes.{Ends, nought}
 use Rattle.boxes.specs.Views.{sides_of}
 use Rattle.boxes.specs.declared.region.Region.{Region}
@@ -17,39 +18,17 @@ use Rattle.jobs.specs.Registers.{Before, no_instruction}
 use Rattle.cutters.specs.Cutting.{and_then}
 use Rattle.forward_backward.specs.Operands.{Earlier, aimed, narrowed, placed}
 use Rattle.forward_backward.specs.Backward.{KnobOf, State, backward, beside, box_of, common, side_cut, turned}
-use Rattle.forward_backward.specs.Told.{Left, TurnedTo, boxed}
+use Rattle.forward_backward.specs.Told.{Left, TurnedTo}
 
 -- an answer gives back what is left
-pub left_none : (o : Option (List Row)) (rows : List Row) → Left o None rows → o ≡ None
-left_none None rows h = refl
-left_none (Some q) rows h = let e = h.0 in let z : ◌≡◌ {A = ℕ} 0 1 = cc in absurd (omega arith)
-
 pub left_some : (o : Option (List Row)) (rows : List Row) → Left o (Some tt) rows → o ≡ Some rows
-left_some None rows h = let z : ◌≡◌ {A = ℕ} 0 1 = cc in absurd (omega arith)
-left_some (Some q) rows h = ap Some (sym h.1)
-
-pub none_left : (o : Option (List Row)) (rows : List Row) → o ≡ None → Left o None rows
-none_left o rows e = rw e refl
-
-pub some_left : (o : Option (List Row)) (rows : List Row) → o ≡ Some rows → Left o (Some tt) rows
-some_left o rows e = rw e (refl, refl)
+left_some o rows h = grind (arith, common_steps)
 
 pub turned_none : (o : Option State) (rows : List Row) → TurnedTo o None rows → o ≡ None
-turned_none None rows h = refl
-turned_none (Some s) rows h = let e = h.0 in let z : ◌≡◌ {A = ℕ} 0 1 = cc in absurd (omega arith)
+turned_none o rows h = grind (arith, common_steps)
 
 pub turned_some : (o : Option State) (r : Region) (rows : List Row) → TurnedTo o (Some r) rows → o ≡ Some (record { rows = rows; box = sides_of r })
-turned_some None r rows h = let z : ◌≡◌ {A = ℕ} 0 1 = cc in absurd (omega arith)
-turned_some (Some s) r rows h =
-    let b : sides_of r ≡ s.box = let e = h.0 in cc in
-    let q = h.1 in
-    (λ i. Some (record { rows = sym q i; box = sym b i }))
-
-pub none_turned : (o : Option State) (rows : List Row) → o ≡ None → TurnedTo o None rows
-none_turned o rows e = rw e refl
-
-pub some_turned : (o : Option State) (r : Option Region) (rows : List Row) (box : List Ends) → boxed r ≡ Some box → o ≡ Some (record { rows = rows; box = box }) → TurnedTo o r rows
-some_turned o r rows box b e = rw e (b, refl)
+turned_some o r rows h = grind (arith, common_steps)
 
 -- what an instruction may name, in two parts
 pub earlier : (knobs j : ℕ) (i : Instruction) → Before knobs j i → Earlier j i
@@ -81,15 +60,19 @@ placed_long : (box : List Ends) (m : ℕ) (o : Option Ends) → AsLong box (plac
 placed_long box m None = tt
 placed_long box m (Some e) = length-set box m e
 
-pub side_cut_long : (i : Instruction) (z : Ends) (box : List Ends) → AsLong box (side_cut i z box)
-side_cut_long (Const c) z box = refl
-side_cut_long (Knob m) z box = placed_long box m (common (slice_index_or box m nought) z)
-side_cut_long (Add a b) z box = refl
-side_cut_long (Sub a b) z box = refl
-side_cut_long (Mul a b) z box = refl
-side_cut_long (Sqr a) z box = refl
-side_cut_long (Min a b) z box = refl
-side_cut_long (Shr a b) z box = refl
+-- what is so of the box as it is, for every instruction, and of a knob's side cut, is so of what an instruction's side cut leaves
+pub side_cut_by : (z : Ends) (box : List Ends) (P : Instruction → Option (List Ends) → Type 0) → ((i : Instruction) → P i (Some box)) → ((m : ℕ) → P (Knob m) (placed box m (common (slice_index_or box m nought) z))) → (i : Instruction) → P i (side_cut i z box)
+side_cut_by z box P f g (Const c) = f (Const c)
+side_cut_by z box P f g (Knob m) = g m
+side_cut_by z box P f g (Add a b) = f (Add a b)
+side_cut_by z box P f g (Sub a b) = f (Sub a b)
+side_cut_by z box P f g (Mul a b) = f (Mul a b)
+side_cut_by z box P f g (Sqr a) = f (Sqr a)
+side_cut_by z box P f g (Min a b) = f (Min a b)
+side_cut_by z box P f g (Shr a b) = f (Shr a b)
+
+side_cut_long : (i : Instruction) (z : Ends) (box : List Ends) → AsLong box (side_cut i z box)
+side_cut_long i z box = side_cut_by z box (λ _ o. AsLong box o) (λ _. refl) (λ m. placed_long box m (common (slice_index_or box m nought) z)) i
 
 beside_long : (box : List Ends) (o : Option (List Row)) (p : Option (List Ends)) → AsLong box p → AsLong box (box_of (beside o p))
 beside_long box None p l = tt
@@ -113,6 +96,3 @@ module _ (k : Kind) (n : Keeper) where
   pub aimed_turn : (targets : List Target) (i : ℕ) (rows : List Row) → i < length targets →
       aimed k n (drop i targets) rows ≡ and_then (narrowed k n rows (get_or targets i no_target).register (record { lo = (get_or targets i no_target).low; hi = (get_or targets i no_target).high })) (aimed k n (drop (i + 1) targets))
   aimed_turn targets i rows h = at_drop_more (λ ts. aimed k n ts rows) targets i no_target h
-
-  pub aimed_over : (targets : List Target) (i : ℕ) (rows : List Row) → length targets ≤ i → aimed k n (drop i targets) rows ≡ Some rows
-  aimed_over targets i rows h = ap (λ ts. aimed k n ts rows) (drop_all i targets h)

@@ -1,6 +1,7 @@
 -- A list that is filled step by step.
 use Rattle.std.proofs.Common.{◌≡◌, ℕ, zero, suc, ◌+◌, ◌<◌, ◌≤◌, List, [], ◌∷◌, ◌++◌, length, get_or, take, Some, None, Option, sym, refl, ap, ◌∙◌, subst, add-zero, zero-add, arith}
-use Rattle.std.proofs.lemmas.List.{take_all, take_at, take-take, get_or-take, length_push, get_or_push}
+use Rattle.std.proofs.lemmas.Grind.{common_steps}
+use Rattle.std.proofs.lemmas.List.{take_all, take_at, take-take, length_push}
 use Rattle.records.specs.declared.instruction.Instruction.{Instruction}
 use Rattle.jobs.specs.Registers.{onward, fill}
 
@@ -14,12 +15,7 @@ module _ {A : Type 0} (f : Instruction → List A → Option A) where
     pub stops : (d : Instruction) (n : ℕ) → n < length is → length r ≡ length xs + n → f (get_or is n d) r ≡ None
 
   at_first : (i : Instruction) (is : List Instruction) (xs : List A) (x : A) (r : List A) → f i xs ≡ Some x → Fills is (xs ++ (x ∷ [])) r → (e : A) → Some (get_or r (length xs) e) ≡ f i (take (length xs) r)
-  at_first i is xs x r q h e =
-      let n = length_push xs x in
-      let m = h.begins in
-      let t : take (length xs) r ≡ xs = sym (take-take (length xs) (length (xs ++ (x ∷ []))) r (omega arith)) ∙ ap (take (length xs)) m ∙ take_at xs (x ∷ []) (length xs) refl in
-      let g : get_or r (length xs) e ≡ x = sym (get_or-take (length (xs ++ (x ∷ []))) r (length xs) e (omega arith)) ∙ ap (λ l. get_or l (length xs) e) m ∙ get_or_push xs x e (length xs) refl in
-      ap Some g ∙ sym q ∙ ap (f i) (sym t)
+  at_first i is xs x r q h e = let m = h.begins in let n = h.from in grind (arith, common_steps)
 
   fills_none : (i : Instruction) (is : List Instruction) (xs : List A) → f i xs ≡ None → Fills (i ∷ is) xs xs
   fills_none i is xs q = record {

@@ -36,7 +36,7 @@ module _ (knob : ℕ → ℤ) (vs ws : List ℤ) (n j : ℕ) (same : (a : ℕ) �
 module _ (program : List Instruction) (knob : ℕ → ℤ) where
   pub values_length : length (values program knob) ≡ length program
   values_length = ⊎_elim
-      (λ (h : length (values program knob) < length program). let e = fill_stops (λ i vs. Some (value knob i vs)) program no_instruction h in let z : ◌≡◌ {A = ℕ} 0 1 = cc in absurd (omega arith))
+      (λ (h : length (values program knob) < length program). let e = fill_stops (λ i vs. Some (value knob i vs)) program no_instruction h in absurd (cc))
       (λ (h : length program ≤ length (values program knob)). let u = fill_upto (λ i vs. Some (value knob i vs)) program in omega arith)
       (cases_lt (length (values program knob)) (length program))
 

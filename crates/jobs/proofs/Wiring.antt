@@ -1,5 +1,6 @@
 -- What the rule of a program says of each of its instructions.
 use Rattle.std.proofs.Common.{◌≡◌, ℕ, ◌+◌, ◌<◌, true, ◌&&◌, ltb, List, length, get_or, subst, arith}
+use Rattle.std.proofs.lemmas.Grind.{common_steps}
 use Rattle.std.proofs.lemmas.Bool.{and_parts, ltb-true}
 use Rattle.boxes.specs.declared.region.Region.{Region}
 use Rattle.boxes.specs.Views.{sides_of}
@@ -11,7 +12,7 @@ use Rattle.records.proofs.Runs.{every_at}
 use Rattle.jobs.specs.Registers.{Before, Wired, no_instruction, program_of}
 
 below_two : (a b k : ℕ) → (ltb a k && ltb b k) ≡ true → (a < k) × (b < k)
-below_two a b k e = let p = and_parts (ltb a k) (ltb b k) e in (ltb-true a k p.0, ltb-true b k p.1)
+below_two a b k e = grind (arith, common_steps)
 
 before : (n k : ℕ) (i : Instruction) → good_instruction n k i ≡ true → Before n k i
 before n k (Const c) e = tt

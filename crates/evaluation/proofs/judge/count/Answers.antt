@@ -1,5 +1,4 @@
-use Rattle.std.proofs.Common.{◌≡◌, length, get_or, count_by, ap, ◌∙◌, arith}
-use Rattle.std.proofs.lemmas.List.{take_all}
+use Rattle.std.proofs.Common.{◌≡◌, length, get_or, ap, ◌∙◌, arith}
 use Rattle.records.specs.Rules.{no_target}
 use Rattle.evaluation.specs.Judging.{taken, target_apart, target_within}
 use Rattle.evaluation.proofs.Aiming.{aimed, counted_more}
@@ -26,11 +25,3 @@ loop-target-preserved g c =
     let u = counted_more (target_within k row) targets n _ _ _ c.loop-target-test.true i.within i.few_within c.from-within.ensures w in
     let v = counted_more (target_apart k row) targets n _ _ _ c.loop-target-test.true i.apart i.few_apart c.from-apart.ensures p in
     record { within = u.is; apart = v.is; few_within = u.few; few_apart = v.few }
-
-pub returns : goal.returns
-returns g c =
-    let k = g.R.Range.kind in
-    let row = taken k c.args.rows.now in
-    let all = take_all c.loop-target.target-index c.as_slice-target-items.result.now c.loop-target-test.false ∙ c.as_slice-target-items.ensures in
-    let i = c.loop-target.invariant in
-    record { within = i.within ∙ ap (count_by (target_within k row)) all; apart = i.apart ∙ ap (count_by (target_apart k row)) all }

@@ -1,19 +1,12 @@
-use Rattle.std.proofs.Common.{◌≡◌, length, None, sym, ap, ◌∙◌, subst}
-use Rattle.std.proofs.lemmas.Result.{err_from_is_err_and}
+use Rattle.std.proofs.Common.{◌≡◌, length, sym, refl, ap, ◌∙◌, subst}
 use Rattle.boxes.specs.Views.{sides_of}
 use Rattle.boxes.proofs.Nesting.{nested_in}
 use Rattle.jobs.specs.Reading.{content_of}
 use Rattle.evaluation.specs.Judging.{Truth, concluded, judged}
-use Rattle.evaluation.specs.Scratch.{fitting, scratch, unfit}
+use Rattle.evaluation.specs.Scratch.{scratch, unfit}
 use Rattle.evaluation.proofs.Concluding.{said_here, true_here}
-use Rattle.evaluation.proofs.Working.{answered_none, fit_in, refused_alike}
+use Rattle.evaluation.proofs.Working.{answered_none, fit_in}
 use Rattle.evaluation.proofs.judge.judge.Goals as goal
-
-pub returns-in_err-evaluate : goal.returns-in_err-evaluate
-returns-in_err-evaluate g c =
-    let p = err_from_is_err_and c.from_residual.result c.from_residual.ensures.1 in
-    let was = c.in_err-evaluate.ensures in
-    rw (p.1, p.2) (record { told = refused_alike _ _ _ _ was.told; filled = c.evaluate.ensures.filled; truth = was.laws })
 
 pub returns : goal.returns
 returns g c =
@@ -31,7 +24,7 @@ returns g c =
     let b = c.count-counts.ensures.apart in
     let s : c.conclude.result ≡ judged k (content_of j) (sides_of r) = c.conclude.ensures ∙ (λ i. concluded (t i) (a i) (b i)) ∙ said_here k L j r n _ _ w in
     record {
-      told = ap (fitting None) s ∙ ap (λ o. fitting o (judged k (content_of j) (sides_of r))) (sym u);
+      told = rw (s, u) refl;
       filled = c.evaluate.ensures.filled;
       truth = subst (Truth (content_of j) (sides_of r)) (sym s) (true_here k L j r n);
     }

@@ -1,29 +1,24 @@
-use Rattle.std.proofs.Common.{◌<◌, ◌≤◌, ◌++◌, length, get_or, take, drop, Some, Err, refl, sym, ap, ◌∙◌, arith}
+use Rattle.std.proofs.Common.{◌<◌, ◌≤◌, length, Some, sym, ap, ◌∙◌, arith}
+use Rattle.std.proofs.lemmas.Grind.{common_steps, elements}
 use Rattle.boxes.specs.Views.{sides_of}
 use Rattle.ranges.specs.Kind.{Valid}
-use Rattle.jobs.specs.Registers.{no_instruction, gives, program_of, registers}
+use Rattle.jobs.specs.Registers.{gives, program_of}
 use Rattle.jobs.proofs.Fills.{fill_upto}
-use Rattle.jobs.proofs.Holding.{region_sided, rows_hold}
-use Rattle.jobs.proofs.Turns.{turn_some, turn_none, turns_over, none_outside, some_outside, valid_more, rest_more, ends_with}
+use Rattle.jobs.proofs.Turns.{turn_some, turn_none, turns_over, ended}
 use Rattle.jobs.proofs.Wiring.{region_wired}
 use Rattle.jobs.proofs.registers.evaluate.Goals as goal
 
-pub evaluate_one-requires : goal.evaluate_one-requires
-evaluate_one-requires g c =
+pub evaluate_one-requires-clause-wired : goal.evaluate_one-requires-clause-wired
+evaluate_one-requires-clause-wired g c =
     let e = c.as_slice-instruction-items.ensures in
     let l = ap length e in
     let t = c.loop-k-test.true in
-    record {
-      room = let r = c.requires.room in omega arith;
-      wired = rw e (region_wired c.args.fields.now c.args.region.now c.requires.knobs c.loop-k.k (omega arith));
-      valid = c.loop-k.invariant.0;
-    }
+    rw e (region_wired c.args.fields.now c.args.region.now c.requires.knobs c.loop-k.k (omega arith))
 
 pub returns-in_default : goal.returns-in_default
 returns-in_default g c =
     let m = g.R.Range.kind in
-    let f = c.args.fields.now in
-    let code = program_of f in
+    let code = program_of c.args.fields.now in
     let box = sides_of c.args.region.now in
     let rows = c.loop-k.rows in
     let k = c.loop-k.k in
@@ -31,24 +26,15 @@ returns-in_default g c =
     let l = ap length items in
     let b = c.loop-k-test.true in
     let n : k ≤ length rows = let r = c.requires.room in omega arith in
-    let t = c.in_default.ensures ∙ ap (λ xs. gives m box (get_or xs k no_instruction) (take k rows)) items in
+    let t = rw items at c.in_default.ensures in
     let e = sym c.loop-k.invariant.1 ∙ turn_none m box code rows k (omega arith) t in
-    let w = ends_with (registers m code box) rows c.args.rows.now k n e c.loop-k.invariant.2 in
-    let more : length (registers m code box) < length code = let z = w.count in omega arith in
-    let told = ap (λ j. Err (record { register = j })) w.count ∙ sym (some_outside _ (length code) more) in
-    let filled = w.filled ∙ ap (λ j. registers m code box ++ drop j c.args.rows.now) w.count in
-    record {
-      told = told;
-      few = fill_upto (gives m box) code;
-      filled = filled;
-      holds = rows_hold m g.met.R.Range.lawful code box (region_sided c.args.region.now) (region_wired f c.args.region.now c.requires.knobs) _ rows _ refl filled;
-    }
+    let w = ended m g.met.R.Range.lawful c.args.fields.now c.args.region.now c.requires.knobs rows c.args.rows.now k n e c.loop-k.invariant.2 in
+    record { told = grind (arith, common_steps, w.count); few = fill_upto (gives m box) code; filled = w.filled; holds = w.holds }
 
 pub loop-k-preserved : goal.loop-k-preserved
 loop-k-preserved g c =
     let m = g.R.Range.kind in
-    let f = c.args.fields.now in
-    let code = program_of f in
+    let code = program_of c.args.fields.now in
     let box = sides_of c.args.region.now in
     let rows = c.loop-k.rows in
     let k = c.loop-k.k in
@@ -57,18 +43,16 @@ loop-k-preserved g c =
     let l = ap length items in
     let b = c.loop-k-test.true in
     let n : k < length rows = let r = c.requires.room in omega arith in
-    let v : Valid m r = ap m.valid c.to_row.ensures ∙ g.met.R.Range.valid c.in-Some.range in
-    let t = ap Some c.to_row.ensures ∙ c.in-Some.ensures ∙ ap (λ xs. gives m box (get_or xs k no_instruction) (take k rows)) items in (
-      valid_more (Valid m) rows k r n c.loop-k.invariant.0 v,
+    let t = ap Some c.to_row.ensures ∙ rw items at c.in-Some.ensures in (
+      (let v : Valid m r = ap m.valid c.to_row.ensures ∙ g.met.R.Range.valid c.in-Some.range in let f = c.loop-k.invariant.0 in grind (arith, elements)),
       sym (turn_some m box code rows k r (omega arith) n t) ∙ c.loop-k.invariant.1,
-      rest_more rows c.args.rows.now k r c.loop-k.invariant.2,
+      grind (arith, common_steps, c.loop-k.invariant.2),
     )
 
 pub returns : goal.returns
 returns g c =
     let m = g.R.Range.kind in
-    let f = c.args.fields.now in
-    let code = program_of f in
+    let code = program_of c.args.fields.now in
     let box = sides_of c.args.region.now in
     let rows = c.loop-k.rows in
     let k = c.loop-k.k in
@@ -77,12 +61,5 @@ returns g c =
     let a = c.loop-k.auto.k-end in
     let n : k ≤ length rows = let r = c.requires.room in omega arith in
     let e = sym c.loop-k.invariant.1 ∙ turns_over m box code rows k (omega arith) in
-    let w = ends_with (registers m code box) rows c.args.rows.now k n e c.loop-k.invariant.2 in
-    let all : length code ≤ length (registers m code box) = let z = w.count in omega arith in
-    let filled = w.filled ∙ ap (λ j. registers m code box ++ drop j c.args.rows.now) w.count in
-    record {
-      told = sym (none_outside _ (length code) all);
-      few = fill_upto (gives m box) code;
-      filled = filled;
-      holds = rows_hold m g.met.R.Range.lawful code box (region_sided c.args.region.now) (region_wired f c.args.region.now c.requires.knobs) _ rows _ refl filled;
-    }
+    let w = ended m g.met.R.Range.lawful c.args.fields.now c.args.region.now c.requires.knobs rows c.args.rows.now k n e c.loop-k.invariant.2 in
+    record { told = grind (arith, common_steps, w.count); few = fill_upto (gives m box) code; filled = w.filled; holds = w.holds }
