@@ -22,8 +22,6 @@ pub fn evaluate<R: Range>(job: &Job, region: &Region, rows: &mut [Row]) -> Resul
     if !region.inside(&job.fields.start) {
         return Err(Unfit::Elsewhere);
     }
-    match registers::evaluate::<R>(&job.fields, region, rows) {
-        Ok(()) => Ok(()),
-        Err(_) => unreachable!(),
-    }
+    registers::evaluate::<R>(&job.fields, region, rows).unwrap();
+    Ok(())
 }

@@ -60,8 +60,5 @@ pub fn judge_start<R: Range>(job: &Job) -> Says
     ensures truth { Truth (content_of job.now) (content_of job.now).sides result }
 {
     let mut rows = [Row::default(); 64];
-    match judge::<R>(job, &job.fields.start, &mut rows) {
-        Ok(says) => says,
-        Err(_) => unreachable!(),
-    }
+    judge::<R>(job, &job.fields.start, &mut rows).unwrap()
 }

@@ -12,7 +12,6 @@
 
 mod bytes;
 mod counts;
-mod entries;
 pub mod fields;
 pub mod instruction;
 mod items;
@@ -21,4 +20,5 @@ mod operation;
 mod places;
 mod reading;
 pub mod reason;
+mod record;
 pub mod target;

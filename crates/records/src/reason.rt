@@ -8,17 +8,17 @@ use std::fmt;
 #[derive(Clone, Copy, PartialEq, Eq, Debug)]
 pub enum Reason {
     /// The record is shorter than its head, or its length field is wrong.
-    BadLength,
+    BadLength = 1,
     /// The version is unknown.
-    BadVersion,
+    BadVersion = 2,
     /// A count is outside its limits, or the record ends early or late.
-    BadShape,
+    BadShape = 3,
     /// An instruction breaks its rule.
-    BadInstruction,
+    BadInstruction = 4,
     /// The limit, a side or a target breaks its rule.
-    BadField,
+    BadField = 5,
     /// A register can leave the bound.
-    TooLarge,
+    TooLarge = 6,
 }
 
 /// A reason, and the place where it arose.
@@ -42,14 +42,7 @@ impl From<Reason> for u32 {
     ghost from_gives = { λ reason n. n ≡ number reason };
 
     fn from(reason: Reason) -> u32 {
-        match reason {
-            Reason::BadLength => 1,
-            Reason::BadVersion => 2,
-            Reason::BadShape => 3,
-            Reason::BadInstruction => 4,
-            Reason::BadField => 5,
-            Reason::TooLarge => 6,
-        }
+        reason as u32
     }
 }
 

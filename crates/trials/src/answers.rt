@@ -1,5 +1,6 @@
 //! Answers of ranges by their rows: ends, and the power of the step.
 use ranges::range::Range;
+use ranges::spans::Span;
 
 #[derive(Clone, Copy, PartialEq, Eq, Debug)]
 pub enum Operation {
@@ -33,11 +34,10 @@ pub struct Answer {
     pub row: Option<(i32, i32, u32)>,
 }
 
-/// What a range keeps from x to y.
+/// What a range keeps of a span.
 pub struct Kept {
     pub a: (i32, i32, u32),
-    pub x: i64,
-    pub y: i64,
+    pub span: Span,
     pub row: Option<(i32, i32, u32)>,
 }
 
@@ -424,98 +424,106 @@ pub const RASTER: [Answer; 47] = [
 pub const RASTER_KEPT: [Kept; 16] = [
     Kept {
         a: (-60, -52, 3),
-        x: -33,
-        y: 7,
+        span: Span { low: -33, high: 7 },
         row: None,
     },
     Kept {
         a: (42, 106, 3),
-        x: 24,
-        y: 47,
+        span: Span { low: 24, high: 47 },
         row: Some((42, 42, 3)),
     },
     Kept {
         a: (-352, -352, 4),
-        x: -339,
-        y: -304,
+        span: Span {
+            low: -339,
+            high: -304,
+        },
         row: None,
     },
     Kept {
         a: (-112, -107, 0),
-        x: -122,
-        y: -80,
+        span: Span {
+            low: -122,
+            high: -80,
+        },
         row: Some((-112, -107, 0)),
     },
     Kept {
         a: (448, 480, 2),
-        x: 470,
-        y: 495,
+        span: Span {
+            low: 470,
+            high: 495,
+        },
         row: Some((472, 480, 2)),
     },
     Kept {
         a: (-80, -68, 2),
-        x: -88,
-        y: -28,
+        span: Span {
+            low: -88,
+            high: -28,
+        },
         row: Some((-80, -68, 2)),
     },
     Kept {
         a: (-37, 27, 4),
-        x: 3,
-        y: 33,
+        span: Span { low: 3, high: 33 },
         row: Some((11, 27, 4)),
     },
     Kept {
         a: (148, 176, 2),
-        x: 172,
-        y: 215,
+        span: Span {
+            low: 172,
+            high: 215,
+        },
         row: Some((172, 176, 2)),
     },
     Kept {
         a: (-12, -9, 0),
-        x: -2,
-        y: 20,
+        span: Span { low: -2, high: 20 },
         row: None,
     },
     Kept {
         a: (-112, 32, 4),
-        x: 24,
-        y: 21,
+        span: Span { low: 24, high: 21 },
         row: None,
     },
     Kept {
         a: (4, 4, 31),
-        x: -9,
-        y: 37,
+        span: Span { low: -9, high: 37 },
         row: Some((4, 4, 31)),
     },
     Kept {
         a: (42, 66, 2),
-        x: 64,
-        y: 72,
+        span: Span { low: 64, high: 72 },
         row: Some((66, 66, 2)),
     },
     Kept {
         a: (152, 216, 6),
-        x: 224,
-        y: 241,
+        span: Span {
+            low: 224,
+            high: 241,
+        },
         row: None,
     },
     Kept {
         a: (-24, -20, 1),
-        x: -7,
-        y: 49,
+        span: Span { low: -7, high: 49 },
         row: None,
     },
     Kept {
         a: (608, 622, 1),
-        x: 630,
-        y: 671,
+        span: Span {
+            low: 630,
+            high: 671,
+        },
         row: None,
     },
     Kept {
         a: (480, 484, 1),
-        x: 461,
-        y: 459,
+        span: Span {
+            low: 461,
+            high: 459,
+        },
         row: None,
     },
 ];

@@ -23,11 +23,9 @@ fn row(low: i32, high: i32) -> Row {
 }
 
 /// The box is the one of these sides.
-fn same(rt: &impl Abort, region: &Region, sides: &[(i32, i32)], note: &str) {
-    assert_eq!(rt; region.knobs(), sides.len(), "{}", note);
-    for (side, ends) in region.sides().iter().zip(sides) {
-        assert_eq!(rt; (side.low, side.high), *ends, "{}", note);
-    }
+fn same(rt: &impl Abort, region: &Region, sides: &[(i32, i32)], note: &str) -> Result<(), Fail> {
+    assert_eq!(rt; region.sides(), region_of(sides)?.sides(), "{}", note);
+    Ok(())
 }
 
 /// The cutter leaves what the case says, and the box as it is where nothing is left.
@@ -43,14 +41,13 @@ fn leaves<R: Range, C: Cutter<R>>(
     match case.left {
         Some(sides) => {
             assert!(rt; some, "{}", case.text);
-            same(rt, &region, sides, case.text);
+            same(rt, &region, sides, case.text)
         }
         None => {
             assert!(rt; !some, "{}", case.text);
-            same(rt, &region, case.sides, case.text);
+            same(rt, &region, case.sides, case.text)
         }
     }
-    Ok(())
 }
 
 fn leaves_by<R: Narrowing>(rt: &impl Abort, job: &Job, case: &Cut) -> Result<(), Fail> {
@@ -102,8 +99,7 @@ fn too_few_rows_leave_the_box(rt: HostRuntime) -> Result<(), Fail> {
     assert!(rt;
         <ForwardBackward as Cutter<Plain>>::cut(&ForwardBackward, &job, &mut region, &mut rows)
     );
-    same(&rt, &region, case.sides, case.text);
-    Ok(())
+    same(&rt, &region, case.sides, case.text)
 }
 
 #[test]

@@ -1,7 +1,6 @@
 use crate::answers;
 use crate::answers::{Answer, BOUND};
 use ranges::narrowing::Narrowing;
-use ranges::plain::Plain;
 use ranges::range::Range;
 use ranges::row::Row;
 use ranges::spans::Span;
@@ -49,11 +48,7 @@ fn raster_targets(rt: HostRuntime) {
 #[test]
 fn raster_keeping(rt: HostRuntime) {
     for case in &answers::RASTER_KEPT {
-        let span = Span {
-            low: case.x,
-            high: case.y,
-        };
-        assert_eq!(rt; row_of(range::<Raster>(case.a).keep(span)), case.row);
+        assert_eq!(rt; row_of(range::<Raster>(case.a).keep(case.span)), case.row);
     }
 }
 
