@@ -1,4 +1,3 @@
-use crate::hexadecimal::bytes_of;
 use boxes::region::Region;
 use boxes::side::Side;
 use jobs::job::Job;
@@ -8,7 +7,7 @@ use tables::table::Table;
 
 /// The job of a record in hexadecimal.
 pub(crate) fn job_of(heap: Global, text: &'static str) -> Result<Job, Fail> {
-    let bytes = bytes_of(heap, text)?;
+    let bytes = hex::decode(heap, text)?;
     Job::read(bytes.as_slice()).map_err(|_| Fail::new(text))
 }
 

@@ -12,8 +12,6 @@ mod cuts;
 #[cfg(test)]
 mod cutters_tests;
 #[cfg(test)]
-mod hexadecimal;
-#[cfg(test)]
 mod jobs_read;
 #[cfg(test)]
 mod judging_tests;

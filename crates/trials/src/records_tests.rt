@@ -1,5 +1,4 @@
 use crate::cases::{Accepted, Refused};
-use crate::hexadecimal::bytes_of;
 use crate::jobs_read::job_of;
 use crate::{outside, worked};
 use jobs::job::Job;
@@ -10,7 +9,7 @@ use std::test::Fail;
 /// Each record is refused, with its number and its place.
 fn all_refused(rt: &impl Abort, heap: Global, cases: &[Refused]) -> Result<(), Fail> {
     for case in cases {
-        let bytes = bytes_of(heap, case.text)?;
+        let bytes = hex::decode(heap, case.text)?;
         let Err(refusal) = Job::read(bytes.as_slice()) else {
             return Err(Fail::new(case.text));
         };
