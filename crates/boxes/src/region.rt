@@ -5,6 +5,7 @@ use crate::side::Side;
 use tables::table::Table;
 
 /// A box of settings: one side for each knob.
+// That a box has the knobs of a job is asked of two lists: a type would have to hold the job too.
 #[derive(Clone, Copy)]
 pub struct Region {
     pub sides: Table<Side, 4>,

@@ -47,6 +47,7 @@ impl Side {
         ensures value { result ≡ covers (ends_of other.now) (ends_of self.now) }
         ensures decides { Decides result (Among (ends_of self.now) (ends_of other.now)) }
     {
+        // one line, as in the spans of `ranges`, which stands above this crate
         (other.low <= self.low) & (self.high <= other.high)
     }
 }

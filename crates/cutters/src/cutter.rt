@@ -15,7 +15,7 @@ pub trait Cutter<R: Range> {
     ghost leaves: { Self → Meaning };
 
     /// Cuts the box, and tells whether anything is left of it. That is a flag beside the box, which is
-    /// only lent: where nothing is left it stays as it was, and the caller needs no copy.
+    /// only lent: where nothing is left it stays as it was.
     fn cut(&self, job: &Job, region: &mut Region, rows: &mut [Row]) -> bool
         ensures told { result ≡ is_some (cut_to (leaves self.now) job.now region.old rows.old) }
         ensures left { sides_of region.new ≡ unwrap_or (cut_to (leaves self.now) job.now region.old rows.old) (sides_of region.old) }

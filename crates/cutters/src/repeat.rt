@@ -28,7 +28,7 @@ impl<R: Range, C: Cutter<R>> Cutter<R> for Repeat<C> {
 
     fn cut(&self, job: &Job, region: &mut Region, rows: &mut [Row]) -> bool {
         let start = *region;
-        // turns are counted here, and no place
+        // this counts turns; nothing is indexed by it
         for _turn in 0..self.times.clamp(FEWEST, MOST) {
             let before = *region;
             if !self.inner.cut(job, region, rows) {

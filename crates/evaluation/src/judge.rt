@@ -59,6 +59,7 @@ pub fn judge_start<R: Range>(job: &Job) -> Says
     ensures value { result ≡ judged R.Range.kind (content_of job.now) (content_of job.now).sides }
     ensures truth { Truth (content_of job.now) (content_of job.now).sides result }
 {
+    // fixed memory: a row for each instruction that a job may have
     let mut rows = [Row::default(); 64];
     judge::<R>(job, &job.fields.start, &mut rows).unwrap()
 }

@@ -12,7 +12,8 @@ use ranges::spans::Span;
 use records::instruction::Instruction;
 
 // Each table here has a line for each kind of instruction. The kinds are closed, so a match stands,
-// and no rule is passed as a closure.
+// and no rule is passed as a closure. The rows of a result and of its operands are the terms of a
+// rule, and an instruction's number that of its result.
 
 /// The ends between which the first operand lies, by the result and both operands.
 fn first_ends(instruction: Instruction, z: Row, x: Row, y: Row) -> Option<Span>

@@ -10,7 +10,7 @@ use crate::registers::evaluate;
 use ranges::plain::Plain;
 use ranges::row::Row;
 use records::fields::Fields;
-use records::reason::{Reason, Refusal};
+use records::reason::Refusal;
 
 impl Job {
     /// The job of a record, or why the record is refused, and where.
@@ -21,10 +21,9 @@ impl Job {
         ensures bounded { IfOk result (λ j. RegistersBounded (content_of j)) }
     {
         let fields = Fields::read(bytes)?;
+        // fixed memory: a row for each instruction that a job may have
         let mut rows = [Row::default(); 64];
-        match evaluate::<Plain>(&fields, &fields.start, &mut rows) {
-            Ok(()) => Ok(Job { fields }),
-            Err(e) => Err(Refusal::new(Reason::TooLarge, e.register)),
-        }
+        evaluate::<Plain>(&fields, &fields.start, &mut rows)?;
+        Ok(Job { fields })
     }
 }

@@ -11,6 +11,10 @@ use ranges::row::Row;
 use records::fields::Fields;
 use records::instruction::Instruction;
 
+// Rows stay a slice and a register a number, as an index asks of every slice; a struct that held the
+// lent rows would owe its rule again at each row that is written. The kinds of instruction are
+// closed, so a match with a line for each stands.
+
 /// The range of an earlier register.
 fn operand<R: Range>(rows: &[Row], register: u8) -> R
     requires { register < length rows.now }

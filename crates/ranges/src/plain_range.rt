@@ -25,6 +25,8 @@ fn make(span: Span) -> Option<Plain>
     })
 }
 
+// `low`, `high` and `within` read alike in every kind: each reads its own fields, and a body that the
+// trait lends would have to go by the row, which a kind owes in the clauses of the same methods.
 impl Range for Plain {
     ghost kind = { plain_kind };
 

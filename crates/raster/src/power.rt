@@ -15,6 +15,7 @@ impl Power {
     /// Steps of 1.
     pub(crate) const SMALLEST: Power = Power { log: 0 };
 
+    /// The largest step, which a range of one number has.
     pub(crate) const LARGEST: Power = Power { log: 31 };
 
     /// This power, unless it is above 31.

@@ -2,7 +2,9 @@ ghost use Rattle.std.specs.Prelude.{◌≡◌, ◌+◌, ◌≤◌, length};
 ghost use Rattle.records.specs.Numbers.{nat16, nat32, int16, int32};
 
 // One line for each type of number, over that type's own method. A trait of the four would hold the
-// same four lines, each in an impl.
+// same four lines, each in an impl; the shelf's readers of bytes take a slice cut to size, which asks
+// the same of the place. The bytes stay a slice and the place a number, as an index asks of every
+// slice.
 
 /// The number in the two bytes at a place.
 pub(crate) fn read_u16(bytes: &[u8], at: usize) -> u16

@@ -8,7 +8,7 @@ use crate::target::Target;
 use boxes::region::Region;
 use tables::table::Table;
 
-/// What a job record says, each field within its rule. The start box has the knobs.
+/// What a job record says, each field within its rule.
 #[derive(Clone, Copy)]
 pub struct Fields {
     pub limit: u16,

@@ -12,6 +12,8 @@ use crate::target::Target;
 use boxes::side::{HIGHEST, LOWEST, Side};
 use ranges::spans::BOUND;
 
+// An item is read from the bytes at a place, which lies within them as any index must.
+
 /// Whether x lies from low to high.
 fn lies(low: i32, x: i32, high: i32) -> bool
     ensures { result ≡ between low x high }

@@ -42,6 +42,7 @@ impl TryFrom<u8> for Operation {
     }
 }
 
+// The operations are closed, so each question of them is a match with a line for each answer.
 impl Operation {
     /// How many values, from 0, the field a of instruction k may take.
     pub(crate) fn values_of_a(self, knobs: usize, k: usize) -> usize

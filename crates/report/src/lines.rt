@@ -15,6 +15,9 @@ use raster::raster::Raster;
 use std::alloc::{AllocError, Global};
 use std::fmt::Write;
 
+// These texts are lines of this program and no value's own text, so they are functions and no
+// `Display`.
+
 /// The line on a job.
 fn accepted_line(heap: Global, job: &Job) -> Result<String, AllocError>
     ensures { IfOk result (λ t. string_bytes t ≡ accepted (content_of job.now)) }
@@ -39,6 +42,7 @@ fn left_text<R: Narrowing>(heap: Global, name: &str, job: &Job) -> Result<String
     ensures { IfOk result (λ t. string_bytes t ≡ left_line name.now R.Range.kind R.Narrowing.keeper (content_of job.now)) }
 {
     let mut region = job.fields.start;
+    // fixed memory: a row for each instruction that a job may have
     let mut rows = [Row::default(); 64];
     if !<ForwardBackward as Cutter<R>>::cut(&ForwardBackward, job, &mut region, &mut rows) {
         return format!(in heap; "{name} leaves nothing");

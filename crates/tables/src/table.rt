@@ -3,6 +3,10 @@ ghost use Rattle.std.specs.Prelude.{◌≡◌, ◌≤◌, ⊤};
 use std::alloc::AllocError;
 
 /// At most N entries.
+// An array and a length stand here, once for all tables: the shelf's arrays with a length do not
+// copy. Clone and Copy are written out, since a derive is refused where a ghost field speaks of a
+// generic type. There is no equality, here or in what holds a table: a derived one would compare
+// what the memory behind the last entry holds.
 pub struct Table<T, const N: usize> {
     pub(crate) cells: [T; N],
     pub(crate) len: usize,
@@ -79,7 +83,7 @@ impl<T: Copy, const N: usize> Table<T, N> {
         ensures { MatchResult result (λ t. Made (F.post make) count (entries t)) (Failed (F.post make) count) }
     {
         let mut table = Table::new(blank);
-        // the number is what an entry is made of
+        // each entry is made from its number
         for k in 0..count {
             table.push(make(k)?);
         }

@@ -1,6 +1,7 @@
 //! What cutters leave of boxes, worked out by a reference in another language.
 use crate::cases::Kind;
 
+/// A cutter. A table of cases cannot hold a type, so a case names it.
 #[derive(Clone, Copy, PartialEq, Eq, Debug)]
 pub enum CutterKind {
     ForwardBackward,

@@ -38,7 +38,7 @@ pub fn greatest(a: i64, b: i64, c: i64, d: i64) -> i64
     a.max(b).max(c.max(d))
 }
 
-/// n / 2^b, rounded down; a b above 30 is taken as 30.
+/// n / 2^b, rounded down; a b above 30 is taken as 30, so that no shift asks anything of its caller.
 pub fn shift_down(n: i64, b: u32) -> i64
     ensures value { result ≡ shr_z n (2 ^ min b 30) }
     ensures rounded { RoundedDown n (pos (2 ^ min b 30)) result }
@@ -74,8 +74,8 @@ pub fn divide_up(n: i32, d: i32) -> i64
     }
 }
 
-/// The greatest number whose square is at most n, and -1 for an n below 0, which has none. So it
-/// never fails, and ends from a root up to -1 cross.
+/// The greatest number whose square is at most n, and -1 for an n below 0, where there is none.
+// No Option: callers take the -1 as an end, and ends from a root up to -1 cross, as they should.
 pub fn root_down(n: i64) -> i64
     ensures value { result ≡ root_down n }
     ensures root { pos 0 ≤ℤ n → GreatestRoot n result }
