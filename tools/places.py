@@ -75,7 +75,7 @@ def main(folder):
             found["4 conversions by hand"].append(at(k, line))
         for k, line in lines(t, r"\bformat!\("):
             found["4 printing by hand"].append(at(k, line))
-        for m in re.finditer(r"((?:#\[derive\(([^)]*)\)\]\n)?)(?:pub(?:\(crate\))? )?(?:struct|enum) (\w+)", t):
+        for m in re.finditer(r"((?:^#\[derive\(([^)]*)\)\]\n)?)^(?:pub(?:\(crate\))? )?(?:struct|enum) (\w+)", t, re.M):
             if "/trials/" not in p and "PartialEq" not in (m.group(2) or ""):
                 found["4 types without a derived equality"].append(at(t.count("\n", 0, m.start()) + 1, m.group(3)))
         for k, line in lines(t, r"^\s*(pub(\(crate\))? )?(knobs|registers|goals|len): usize,$|^\s*pub \w+: \[[^;\]]+; \d+\],|\bknobs: \d,"):

@@ -12,7 +12,8 @@ use crate::lines::text;
 use std::io;
 use std::io::Read;
 
-// A program has no library that the other program could use, so each has its own `main`.
+// The other program's `main` reads alike, and says something else. A crate that held these four
+// lines, and took what is said as a closure, would be no plainer.
 
 /// The most bytes of the input that are read.
 const MOST: u64 = 1024;

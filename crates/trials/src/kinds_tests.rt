@@ -12,7 +12,7 @@ pub(crate) fn range<R: Range>((low, high, step): (i32, i32, u32)) -> R {
     R::from_row(Row { low, high, step })
 }
 
-/// The ends and the step of a range's row.
+/// The ends and the step of a range's row, by which the tables hold it: three numbers on a line.
 pub(crate) fn row_of<R: Range>(range: Option<R>) -> Option<(i32, i32, u32)> {
     range.map(|r| (r.low(), r.high(), r.to_row().step))
 }
