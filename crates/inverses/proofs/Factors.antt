@@ -14,9 +14,6 @@ use Rattle.inverses.specs.InverseLaws.{InverseBoth, Known, Lies}
 apart : (e : Ends) → around_zero e ≡ false → int_min e.lo e.hi ≤ℤ pos 0 → pos 0 ≤ℤ int_max e.lo e.hi → ⊥
 apart e f l h = both_ways (around_zero e) f (and_from _ _ (is_le _ _ l) (is_le _ _ h))
 
-pub high_not_zero : (e : Ends) → around_zero e ≡ false → e.hi ≡ pos 0 → ⊥
-high_not_zero e f z = apart e f (omega (arith, ints, clamps)) (omega (arith, ints, clamps))
-
 -- ends between which a number lies are in order
 one_sign : (e : Ends) (x : ℤ) → around_zero e ≡ false → Lies e x → (pos 0 <ℤ e.lo) ⊎ (e.hi <ℤ pos 0)
 one_sign e x f p = by_lt_z (pos 0) e.lo inl

@@ -1,5 +1,5 @@
 -- Orders of products of whole numbers.
-use Rattle.std.proofs.Common.{◌≡◌, ℕ, zero, suc, ◌+◌, ◌*◌, ◌/◌, ◌^◌, ◌<◌, ◌≤◌, true, false, cond, T, ℤ, pos, negsuc, ◌+ℤ◌, ◌*ℤ◌, ◌≤ℤ◌, ◌<ℤ◌, sym, ap, subst, mul-le-mul_right, mul-le-mul, div-add-mod', le-div_iff_mul-le, arith}
+use Rattle.std.proofs.Common.{◌≡◌, ℕ, zero, suc, ◌*◌, ◌/◌, ◌<◌, ◌≤◌, true, false, cond, T, ℤ, pos, negsuc, ◌+ℤ◌, ◌*ℤ◌, ◌≤ℤ◌, ◌<ℤ◌, sym, ap, subst, mul-le-mul_right, div-add-mod', le-div_iff_mul-le, arith}
 use lib.Signed.{le_z, lt_z, shr_z}
 use Rattle.std.proofs.Math.IntN.{*ℤ_comm}
 use borrow.Author.Differences.{up, down, le_out, sum_is_lem, product_is}
@@ -97,11 +97,3 @@ shift_mono m z (pos a) (pos b) h = let k = div_mono m a b z (omega (arith, ints)
 shift_mono m z (pos a) (negsuc b) h = absurd (omega (arith, ints))
 shift_mono m z (negsuc a) (pos b) h = omega (arith, ints)
 shift_mono m z (negsuc a) (negsuc b) h = let k = div_mono m b a z (omega (arith, ints)) in omega (arith, ints)
-
-pub square_bound : (z : ℤ) → negsuc 1073741823 ≤ℤ z → z ≤ℤ pos 1073741824 → (z *ℤ z) ≤ℤ pos (2 ^ 60)
-square_bound (pos n) l h = let k : n ≤ 1073741824 = omega (arith, ints) in let m = mul-le-mul k k in omega (arith, ints)
-square_bound (negsuc n) l h = let k : suc n ≤ 1073741824 = omega (arith, ints) in let m = mul-le-mul k k in omega (arith, ints)
-
-pub scaled_bound : (z : ℤ) (n : ℕ) → negsuc (2 ^ 31) ≤ℤ z → z ≤ℤ pos (2 ^ 31) → n ≤ 2 ^ 30 → Amid (negsuc (2 ^ 62)) (z *ℤ pos n) (pos (2 ^ 61))
-scaled_bound (pos k) n l h m = let q : k ≤ 2 ^ 31 = omega (arith, ints) in let r = mul-le-mul q m in record { low = omega (arith, ints); high = omega (arith, ints) }
-scaled_bound (negsuc k) n l h m = let q : suc k ≤ 2 ^ 31 + 1 = omega (arith, ints) in let r = mul-le-mul q m in record { low = omega (arith, ints); high = omega (arith, ints) }

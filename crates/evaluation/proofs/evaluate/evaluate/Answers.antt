@@ -17,13 +17,6 @@ unwrap-requires g c =
     let all = all_here g.R.Range.kind g.met.R.Range.lawful j r n in
     grind (arith, common_steps, c.evaluate.ensures.told, all)
 
-pub returns-clause-filled : goal.returns-clause-filled
-returns-clause-filled g c =
-    let j = c.args.job.now in
-    let r = c.args.region.now in
-    let all = all_here g.R.Range.kind g.met.R.Range.lawful j r (nested_in (sides_of r) (sides_of j.fields.start) (sym c.if-not-inside.ensures.value)) in
-    grind (arith, common_steps)
-
 pub returns-clause-laws : goal.returns-clause-laws
 returns-clause-laws g c =
     let j = c.args.job.now in

@@ -1,11 +1,7 @@
 use Rattle.std.proofs.Common.{arith, w32, SFits, rules}
-use Rattle.std.proofs.lemmas.Int.{ints, to_z-of_z}
+use Rattle.std.proofs.lemmas.Int.{to_z-of_z}
 use Rattle.ranges.specs.Kind.{ends}
-use Rattle.inverses.proofs.Factors.{high_not_zero}
 use Rattle.inverses.proofs.quotients.greatest_quotient.Goals as goal
-
-pub divide_down-requires-4 : goal.divide_down-requires-4
-divide_down-requires-4 c = λ e. high_not_zero (ends c.args.y) c.requires (omega (arith, ints))
 
 pub returns : goal.returns
 returns c =

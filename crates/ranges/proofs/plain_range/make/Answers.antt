@@ -8,11 +8,6 @@ use Rattle.ranges.proofs.plain_range.make.Goals as goal
 pub returns-then-not-fits : goal.returns-then-not-fits
 returns-then-not-fits c = sym (plain_no (span_ends c.args.span) (λ o. both_ways _ (sym c.if-not-fits.ensures) (fit_out _ o)))
 
-pub invariant_of-result : goal.invariant_of-result
-invariant_of-result c =
-    let o = fit_in (span_ends c.args.span) (sym c.if-not-fits.ensures) in
-    record { above = omega (arith, ints); order = omega (arith, ints); below = omega (arith, ints) }
-
 pub returns : goal.returns
 returns c =
     let s = c.args.span in

@@ -1,13 +1,8 @@
 use Rattle.std.proofs.Common.{sym, ◌∙◌, append_assoc}
-use Rattle.cutters.proofs.Turning.{nothing_left, something_left}
+use Rattle.cutters.proofs.Turning.{something_left}
 use Rattle.forward_backward.specs.Backward.{forward_backward}
 use Rattle.report.proofs.Leaving.{start_left}
 use Rattle.report.proofs.lines.left_text.Goals as goal
-
-pub returns-then-not-cut : goal.returns-then-not-cut
-returns-then-not-cut g c =
-    let whole = start_left (forward_backward g.R.Range.kind g.R.Narrowing.keeper) c.args.job.now in
-    rw (← (sym (nothing_left _ (sym c.if-not-cut.ensures.told)) ∙ whole)) c.format.ensures.ok
 
 pub returns : goal.returns
 returns g c =

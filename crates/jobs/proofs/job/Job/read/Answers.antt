@@ -43,11 +43,6 @@ returns-in_err-evaluate-clause-first c =
     let g = subst (λ (x : Content). Leaves x (bounded_upto (content f))) (is_content s (content f) was.told) (leaving (content f) was.exact.0.kept t.0) in
     rw (p.1, p.2 ∙ ap (at TooLarge) t.1) (told_large s was.first (bounded_upto (content f)) g)
 
-pub invariant_of-result : goal.invariant_of-result
-invariant_of-result c =
-    let f = c.in_ok-fields.fields in
-    record { bounded = omega (arith, told_all (bounded_upto (content f)) (length (program_of f)) c.in_ok-evaluate.ensures.told, fill_upto (gives plain_kind (sides_of f.start)) (program_of f)) }
-
 pub returns-clause-told : goal.returns-clause-told
 returns-clause-told c =
     let f = c.in_ok-fields.fields in
