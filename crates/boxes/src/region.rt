@@ -5,7 +5,8 @@ use crate::side::Side;
 use tables::table::Table;
 
 /// A box of settings: one side for each knob.
-// That a box has the knobs of a job is asked of two lists: a type would have to hold the job too.
+// Contracts ask that a box has as many sides as the start box of the job. A type for that would have
+// to hold the job too. There is no equality, as for `Table`.
 #[derive(Clone, Copy)]
 pub struct Region {
     pub sides: Table<Side, 4>,

@@ -16,6 +16,7 @@ impl<R: Range> Cutter<R> for Idle {
 
     ghost lawful = { λ c. idle_lawful };
 
+    // a flag, since the box is lent: see the trait
     fn cut(&self, job: &Job, region: &mut Region, rows: &mut [Row]) -> bool {
         true
     }

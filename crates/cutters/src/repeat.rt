@@ -26,6 +26,7 @@ impl<R: Range, C: Cutter<R>> Cutter<R> for Repeat<C> {
 
     ghost lawful = { λ c. repeat_lawful _ (turns c.times) (C.Cutter.lawful c.inner) };
 
+    // a flag, since the box is lent: see the trait
     fn cut(&self, job: &Job, region: &mut Region, rows: &mut [Row]) -> bool {
         let start = *region;
         // this counts turns; nothing is indexed by it

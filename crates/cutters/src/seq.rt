@@ -19,6 +19,7 @@ impl<R: Range, A: Cutter<R>, B: Cutter<R>> Cutter<R> for Seq<A, B> {
 
     ghost lawful = { λ c. seq_lawful _ _ (A.Cutter.lawful c.first) (B.Cutter.lawful c.second) };
 
+    // a flag, since the box is lent: see the trait
     fn cut(&self, job: &Job, region: &mut Region, rows: &mut [Row]) -> bool {
         let before = *region;
         if !self.first.cut(job, region, rows) {

@@ -18,6 +18,7 @@ impl fmt::Display for Says {
     ghost output = { λ says. Some (word says) };
 
     fn fmt<W: fmt::Write>(&self, f: &mut fmt::Formatter<W>) -> fmt::Result {
+        // closed kinds, and a word for each
         f.write_str(match self {
             Says::Within => "within",
             Says::Apart => "apart",

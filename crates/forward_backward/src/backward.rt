@@ -17,9 +17,9 @@ use ranges::row::Row;
 use ranges::spans::Span;
 use records::instruction::Instruction;
 
-// Job, box and rows are what a cutter is lent, and stay three. The rows are cut to as many as there
-// are instructions: that, too, is asked of a slice and a list, and a type would have to hold both. An
-// instruction comes with its number, which is how many stand before it in the program.
+// Job, box and rows are what a cutter is lent, and no struct holds the three. There are as many rows
+// as instructions: a type for that would have to hold the job too. An instruction comes with its
+// number, which is how many stand before it in the program.
 
 /// The box with the side of an instruction's knob cut to the ends of its register; none where that
 /// side would cross.

@@ -19,6 +19,7 @@ impl<R: Narrowing> Cutter<R> for ForwardBackward {
 
     ghost lawful = { λ c. forward_backward_lawful R.Range.kind R.Range.lawful R.Narrowing.keeper R.Narrowing.keeps };
 
+    // a flag, since the box is lent: see the trait
     fn cut(&self, job: &Job, region: &mut Region, rows: &mut [Row]) -> bool {
         let Ok(()) = evaluate::<R>(job, region, rows) else {
             return true;

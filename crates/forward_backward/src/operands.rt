@@ -11,9 +11,9 @@ use ranges::row::Row;
 use ranges::spans::Span;
 use records::instruction::Instruction;
 
-// Each table here has a line for each kind of instruction. The kinds are closed, so a match stands,
-// and no rule is passed as a closure. The rows of a result and of its operands are the terms of a
-// rule, and an instruction's number that of its result.
+// Each match here has a line for each kind of instruction, and the kinds are closed. The rows of a
+// result and of its operands are the terms of a rule, and no struct holds them: each rule takes other
+// ones. An instruction's number is that of its result.
 
 /// The ends between which the first operand lies, by the result and both operands.
 fn first_ends(instruction: Instruction, z: Row, x: Row, y: Row) -> Option<Span>

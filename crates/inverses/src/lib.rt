@@ -93,7 +93,7 @@ pub fn of_lesser(z: Row, x: Row, y: Row) -> Span
     }
 }
 
-/// 2^by; a by above 30 is taken as 30.
+/// 2^by; a by above 30 is taken as 30, so that no shift asks anything of its caller.
 fn power(by: u32) -> i32
     ensures { result ≡ pos (divisor by) }
 {

@@ -8,6 +8,7 @@ use std::fmt;
 
 /// A job: fields that keep their rules, and whose registers all have a plain range over the start
 /// box within the bound.
+// There is no equality, as for `Table`.
 #[derive(Clone, Copy)]
 pub struct Job {
     pub fields: Fields,

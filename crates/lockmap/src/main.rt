@@ -14,13 +14,10 @@ use std::alloc::{AllocError, Global};
 use std::io;
 use std::io::Read;
 
-// The other program's `main` reads alike, and says something else. A crate that held these four
-// lines, and took what is said as a closure, would be no plainer.
-
 /// The most bytes of the input that are read.
 const MOST: u64 = 1024;
 
-/// What is said of a record.
+/// What is said of a record. `report` says more of a job, so it has its own.
 fn line(heap: Global, bytes: &[u8]) -> Result<String, AllocError>
     ensures { IfOk result (λ t. string_bytes t ≡ said (verdict bytes.now)) }
 {
@@ -30,6 +27,8 @@ fn line(heap: Global, bytes: &[u8]) -> Result<String, AllocError>
     }
 }
 
+// `main` of `report` has the same four lines. A crate that held them, and took what is said as a
+// closure, would be no plainer.
 fn main(rt: HostRuntime) -> io::Result<()> {
     let mut bytes = Vec::new(rt.alloc());
     rt.stdin().take(MOST).read_to_end(&mut bytes)?;

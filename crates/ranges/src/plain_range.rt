@@ -25,8 +25,8 @@ fn make(span: Span) -> Option<Plain>
     })
 }
 
-// `low`, `high` and `within` read alike in every kind: each reads its own fields, and a body that the
-// trait lends would have to go by the row, which a kind owes in the clauses of the same methods.
+// `low`, `high` and `within` read alike in every kind so far, a line each. A body in the trait would
+// make it a law of every kind that these go by the ends of its row.
 impl Range for Plain {
     ghost kind = { plain_kind };
 

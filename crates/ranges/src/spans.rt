@@ -47,6 +47,7 @@ impl Span {
     pub fn inside(self, other: Span) -> bool
         ensures { result ≡ covers (span_ends other) (span_ends self) }
     {
+        // one line, as in a side, which is of another type and stands below this crate
         (other.low <= self.low) & (self.high <= other.high)
     }
 

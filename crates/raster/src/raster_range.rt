@@ -23,6 +23,7 @@ fn cut(r: &Raster, span: Span) -> Option<Raster>
     make_inward(Span::from(r.to_row()).meet(span), r.low as i64, r.power)
 }
 
+// What reads as in the plain range is a line of this kind's own, for the reasons told there.
 impl Range for Raster {
     ghost kind = { raster_kind };
 
@@ -82,6 +83,7 @@ impl Range for Raster {
     }
 
     fn shr(&self, by: u32) -> Option<Raster> {
+        // as in `shr_ends`, a by above 30 is taken as 30, so that no shift asks anything of its caller
         let span = shr_ends(self.to_row(), by);
         make(span, self.power.lowered(by.min(30)))
     }

@@ -62,6 +62,7 @@ impl Counts {
         ensures { mapped counted result ≡ unless (layout_fault bytes.now) (counts_in bytes.now) }
     {
         head(bytes)?;
+        // where a count stands depends on those before it, so they are filled in one by one
         let mut counts = Counts {
             knobs: count_at(bytes, KNOBS_PLACE, 4)?,
             instructions: 0,

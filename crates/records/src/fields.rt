@@ -9,6 +9,7 @@ use boxes::region::Region;
 use tables::table::Table;
 
 /// What a job record says, each field within its rule.
+// There is no equality, as for `Table`.
 #[derive(Clone, Copy)]
 pub struct Fields {
     pub limit: u16,

@@ -5,7 +5,7 @@ ghost use Rattle.records.specs.Operations.{Decodes, code_of};
 use crate::instruction::Instruction;
 use ranges::spans::BOUND;
 
-/// The operations, each with its code in a record.
+/// The operations. In a record each stands by its code, a number from 0 to 7.
 #[derive(Clone, Copy, PartialEq, Eq, Debug)]
 pub enum Operation {
     Const,

@@ -14,6 +14,7 @@ use boxes::side::Side;
 use tables::table::Table;
 
 /// The bytes of a record whose head, counts and size are right.
+// There is no equality, since no two are ever met.
 #[derive(Clone, Copy)]
 pub(crate) struct Record<'a> {
     bytes: &'a [u8],

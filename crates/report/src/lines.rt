@@ -61,7 +61,7 @@ fn job_text(heap: Global, job: &Job) -> Result<String, AllocError>
     format!(in heap; "{first}\n{plain}\n{raster}")
 }
 
-/// What is said of a record.
+/// What is said of a record. `lockmap` says less of a job, so it has its own.
 pub(crate) fn text(heap: Global, bytes: &[u8]) -> Result<String, AllocError>
     ensures { IfOk result (λ t. string_bytes t ≡ said (verdict bytes.now)) }
 {

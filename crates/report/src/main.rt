@@ -12,12 +12,11 @@ use crate::lines::text;
 use std::io;
 use std::io::Read;
 
-// The other program's `main` reads alike, and says something else. A crate that held these four
-// lines, and took what is said as a closure, would be no plainer.
-
 /// The most bytes of the input that are read.
 const MOST: u64 = 1024;
 
+// `main` of `lockmap` has the same four lines. A crate that held them, and took what is said as a
+// closure, would be no plainer.
 fn main(rt: HostRuntime) -> io::Result<()> {
     let mut bytes = Vec::new(rt.alloc());
     rt.stdin().take(MOST).read_to_end(&mut bytes)?;

@@ -83,7 +83,7 @@ impl<T: Copy, const N: usize> Table<T, N> {
         ensures { MatchResult result (λ t. Made (F.post make) count (entries t)) (Failed (F.post make) count) }
     {
         let mut table = Table::new(blank);
-        // each entry is made from its number
+        // each entry is made from its number, so the loop goes over numbers
         for k in 0..count {
             table.push(make(k)?);
         }

@@ -15,6 +15,7 @@ pub enum Operation {
 impl Operation {
     /// The answer for two ranges, of which some operations look at the first alone.
     pub fn answer<R: Range>(&self, a: &R, b: &R) -> Option<R> {
+        // closed kinds, and a method for each
         match *self {
             Operation::Add => a.add(b),
             Operation::Sub => a.sub(b),
@@ -41,6 +42,7 @@ pub struct Kept {
     pub row: Option<(i32, i32, u32)>,
 }
 
+/// The bound, told here once more: a test does not take it from what it tries.
 pub const BOUND: i32 = 1 << 30;
 
 pub const PLAIN: [Answer; 15] = [
