@@ -10,7 +10,7 @@ use crate::registers::evaluate;
 use ranges::plain::Plain;
 use ranges::row::Row;
 use records::fields::Fields;
-use records::reason::Refusal;
+use records::reason::{Reason, Refusal};
 
 impl Job {
     /// The job of a record, or why the record is refused, and where.
@@ -23,7 +23,10 @@ impl Job {
         let fields = Fields::read(bytes)?;
         // fixed memory: a row for each instruction that a job may have
         let mut rows = [Row::default(); 64];
-        evaluate::<Plain>(&fields, &fields.start, &mut rows)?;
-        Ok(Job { fields })
+        // only here does a register that is too large become a refusal, so no conversion stands for it
+        match evaluate::<Plain>(&fields, &fields.start, &mut rows) {
+            Ok(()) => Ok(Job { fields }),
+            Err(e) => Err(Refusal::new(Reason::TooLarge, e.register)),
+        }
     }
 }
