@@ -19,6 +19,19 @@ FUNCTION = re.compile(r"\bfn (\w+)((?:<[^{;]*?>)?)\(([^{;]*?)\)\s*(?:->\s*([^{;]
 WORD = re.compile(r"[A-Za-z_]\w*|\d[\w_]*|\S")
 KEPT = {"for", "in", "if", "else", "match", "let", "mut", "return", "fn", "as", "while", "Some", "None", "Ok", "Err", "self", "pub"}
 
+# a line of this shape is a place of this list
+SHAPES = (
+    ("1 numbers for kinds", r"^(pub(\(crate\))? )?const [A-Z]+: u8\b|\bcode: u8\b"),
+    ("1 numbers for refusals or for nothing", r"\bfn number\b|\bnumber: u32|\{ -1 \}"),
+    ("1 own enums", r"^(pub(\(crate\))? )?enum "),
+    ("1 a match that a method of Option or Result does", r"\bSome\((\w+)\) => \1,|\bOk\((\w+)\) => \2,|\bOk\((\w+)\) => Ok\(\3\),"),
+    ("3 loops that count, or that ask for an iterator by hand", r"\bfor \w+ in \(?\d[\w.]*\.\.|\bwhile \w+ <|\.iter\(\) \{|\.iter_mut\(\) \{"),
+    ("4 conversions by hand", r"\bfn (word|decode|row_of|ends_of|ends|to_row|from_row|read_[ui]\d+)\b"),
+    ("4 printing by hand", r"\bformat!\("),
+    ("6 arrays, and lengths beside them", r"^\s*(pub(\(crate\))? )?(knobs|registers|goals|len): usize,$|^\s*pub \w+: \[[^;\]]+; \d+\],|\bknobs: \d,"),
+    ("7 switches on a kind", r"\bmatch \*?(self|instruction|code|says|operation|case\.\w+)\b"),
+)
+
 
 def functions(text):
     """name, parameters, result, clauses, body and line of each function with a body"""
@@ -49,14 +62,8 @@ def main(folder):
     given = defaultdict(list)
     for p, t in files.items():
         at = lambda k, what: f"{p}:{k} {what}"
-        for k, line in lines(t, r"^(pub(\(crate\))? )?const [A-Z]+: u8\b|\bcode: u8\b"):
-            found["1 numbers for kinds"].append(at(k, line))
-        for k, line in lines(t, r"\bfn number\b|\bnumber: u32|\{ -1 \}"):
-            found["1 numbers for refusals or for nothing"].append(at(k, line))
-        for k, line in lines(t, r"^(pub(\(crate\))? )?enum "):
-            found["1 own enums"].append(at(k, line))
-        for k, line in lines(t, r"\bSome\((\w+)\) => \1,|\bOk\((\w+)\) => \2,|\bOk\((\w+)\) => Ok\(\3\),"):
-            found["1 a match that a method of Option or Result does"].append(at(k, line))
+        for title, pattern in SHAPES:
+            found[title] += [at(k, line) for k, line in lines(t, pattern)]
         for name, params, result, clauses, body, k in functions(t):
             if "&mut" in params and re.match(r"(bool|u\d+|usize|i\d+)$", result):
                 found["1 a flag or a number beside what a &mut leaves"].append(at(k, f"{name} -> {result}"))
@@ -69,19 +76,9 @@ def main(folder):
             for i in range(len(names)):
                 for j in range(i + 1, len(names)):
                     given[(names[i], names[j])].append(at(k, name))
-        for k, line in lines(t, r"\bfor \w+ in \(?\d[\w.]*\.\.|\bwhile \w+ <|\.iter\(\) \{|\.iter_mut\(\) \{"):
-            found["3 loops that count, or that ask for an iterator by hand"].append(at(k, line))
-        for k, line in lines(t, r"\bfn (word|decode|row_of|ends_of|ends|to_row|from_row|read_[ui]\d+)\b"):
-            found["4 conversions by hand"].append(at(k, line))
-        for k, line in lines(t, r"\bformat!\("):
-            found["4 printing by hand"].append(at(k, line))
         for m in re.finditer(r"((?:^#\[derive\(([^)]*)\)\]\n)?)^(?:pub(?:\(crate\))? )?(?:struct|enum) (\w+)", t, re.M):
             if "/trials/" not in p and "PartialEq" not in (m.group(2) or ""):
                 found["4 types without a derived equality"].append(at(t.count("\n", 0, m.start()) + 1, m.group(3)))
-        for k, line in lines(t, r"^\s*(pub(\(crate\))? )?(knobs|registers|goals|len): usize,$|^\s*pub \w+: \[[^;\]]+; \d+\],|\bknobs: \d,"):
-            found["6 arrays, and lengths beside them"].append(at(k, line))
-        for k, line in lines(t, r"\bmatch \*?(self|instruction|code|says|operation|case\.\w+)\b"):
-            found["7 switches on a kind"].append(at(k, line))
     for same in like.values():
         if len(same) > 1:
             found["2 functions of one shape"].append(" = ".join(same))

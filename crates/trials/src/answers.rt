@@ -14,7 +14,7 @@ pub enum Operation {
 
 impl Operation {
     /// The answer for two ranges, of which some operations look at the first alone.
-    pub fn answer<R: Range>(&self, a: &R, b: &R) -> Option<R> {
+    pub(crate) fn answer<R: Range>(&self, a: &R, b: &R) -> Option<R> {
         // closed kinds, and a method for each
         match *self {
             Operation::Add => a.add(b),
