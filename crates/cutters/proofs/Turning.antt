@@ -31,11 +31,11 @@ module _ (f : List Ends → Option (List Ends)) where
   turn n i box h = let e : n - i ≡ suc (n - (i + 1)) = omega arith in ap (λ m. again f m box) e
 
   -- where a turn changes nothing, no further turn does
-  turn_same : (m : ℕ) (box : List Ends) → f box ≡ Some box → again f m box ≡ Some box
+  pub turn_same : (m : ℕ) (box : List Ends) → f box ≡ Some box → again f m box ≡ Some box
   turn_same zero box e = refl
   turn_same (suc m) box e = ap (λ o. and_then o (again f m)) e ∙ turn_same m box e
 
-  turns_over : (n i : ℕ) (box : List Ends) → n ≤ i → again f (n - i) box ≡ Some box
+  pub turns_over : (n i : ℕ) (box : List Ends) → n ≤ i → again f (n - i) box ≡ Some box
   turns_over n i box h = let e : n - i ≡ 0 = omega arith in ap (λ m. again f m box) e
 
 -- a repeat over scratch of any size is the repeat of its turns over that scratch
@@ -43,7 +43,7 @@ idle_turns : (n : ℕ) (box : List Ends) → again (λ b. Some b) n box ≡ Some
 idle_turns zero box = refl
 idle_turns (suc n) box = idle_turns n box
 
-repeat_with : (rows n : ℕ) (f : Meaning) (c : Content) (box : List Ends) → left_with rows (repeated n f) c box ≡ again (left_with rows f c) n box
+pub repeat_with : (rows n : ℕ) (f : Meaning) (c : Content) (box : List Ends) → left_with rows (repeated n f) c box ≡ again (left_with rows f c) n box
 repeat_with rows n f c box = go (ltb rows (length c.program))
   where
     go : (b : Bool) → cond b (Some box) (again (f c) n box) ≡ again (λ x. cond b (Some x) (f c x)) n box
@@ -57,7 +57,7 @@ ends_same e f p q =
     let h : e.hi ≡ f.hi = omega (arith, ints) in
     (λ i. record { lo = l i; hi = h i })
 
-box_same : (a b : List Ends) → InOrder b → nested a b ≡ true → Part b a → b ≡ a
+pub box_same : (a b : List Ends) → InOrder b → nested a b ≡ true → Part b a → b ≡ a
 box_same a b o t p =
     let m = nested_in a b t in
     let n = part_nested b o a p in

@@ -19,7 +19,7 @@ use Rattle.evaluation.proofs.Working.{all_here, wired_here}
 
 module _ (k : Kind) (L : Lawful k) (j : Job) (r : Region) (n : Nested (sides_of r) (sides_of j.fields.start)) where
   aim : (i : ℕ) → i < length (content_of j).targets → (get_or (content_of j).targets i no_target).register < length (program_of j.fields)
-  aim i h = aimed j.fields i h
+  aim i h = (aimed j.fields i h).there
 
   -- what the targets say is true of the settings of the box
   pub true_here : Truth (content_of j) (sides_of r) (judged k (content_of j) (sides_of r))

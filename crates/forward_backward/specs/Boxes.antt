@@ -1,5 +1,5 @@
 -- Cutting a side leaves a box within the box, and loses no setting whose knob reads the register's number.
-use Rattle.std.specs.Prelude.{◌≡◌, ℕ, ◌<◌, true, List, length, ℤ, pos, slice_index_or, slice_set}
+use Rattle.std.specs.Prelude.{◌≡◌, ℕ, ◌<◌, true, List, length, ℤ, pos, Some, slice_index_or, slice_set}
 use Rattle.std.proofs.Common.{arith, length-set}
 use Rattle.std.proofs.lemmas.Grind.{elements}
 use Rattle.std.proofs.lemmas.Int.{clamps, ints}
@@ -62,5 +62,8 @@ module _ (box : List Ends) (p : Proper box) (m : ℕ) (l : m < length box) (z : 
         to = λ n h. let a = i.to n (omega arith) in grind (arith, elements, ints, clamps);
       })
 
+same_inside : (box : List Ends) → Proper box → LeftIn box (Some box)
+same_inside box p = (p, λ setting i. i)
+
 pub cut_inside : (i : Instruction) (z : Ends) (box : List Ends) → Proper box → KnobOf (length box) i → LeftIn box (side_cut i z box)
-cut_inside i z box p = side_cut_by z box (λ i o. KnobOf (length box) i → LeftIn box o) (λ _ _. (p, λ setting i. i)) (λ m l. knob_inside box p m l z) i
+cut_inside i z box p = side_cut_by z box (λ i o. KnobOf (length box) i → LeftIn box o) (λ _ _. same_inside box p) (λ m l. knob_inside box p m l z) i

@@ -158,7 +158,7 @@ module _ (k : Kind) (L : LawfulKind k) (n : Keeper) (K : Keeping k n) (c : Conte
       rows_keep k vs m setting (aimed k n c.targets Q) _
       (aimed_keeps k L n K vs m c.targets (λ a l.
       let t = meets a l in (
-        aimed_by m (slice_index_or c.targets a no_target) (every_at (λ _ x. good_target m x) 0 c.targets no_target sound.fields.aimed a l),
+        (aimed_by m (slice_index_or c.targets a no_target) (every_at (λ _ x. good_target m x) 0 c.targets no_target sound.fields.aimed a l)).there,
         record { low = t.from; high = t.to },
       )) Q g hold)
       (λ rows e h. box_there k vs m setting (backward k n c.program m (record { rows = rows; box = box }))

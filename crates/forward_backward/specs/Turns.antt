@@ -1,13 +1,15 @@
 -- What the code's answers say of what is left, and the turns of its loops.
-use Rattle.std.specs.Prelude.{◌≡◌, ℕ, suc, ◌+◌, ◌<◌, ◌≤◌, List, length, get_or, drop, Some, None, Option, slice_index_or, refl}
+use Rattle.std.specs.Prelude.{◌≡◌, ℕ, suc, ◌+◌, ◌<◌, ◌≤◌, List, map, length, get_or, take, drop, Some, None, Option, slice_index_or, slice_set, refl}
 use native.Mathlib.Omega.{arith}
-use Rattle.std.proofs.Common.{length-set}
+use Rattle.std.proofs.Common.{◌∙◌, length-set}
 use Rattle.std.proofs.Math.Path.{ap}
+use Rattle.std.proofs.Math.Seq.{take-set-lt}
 use Rattle.std.proofs.lemmas.Grind.{common_steps}
-use Rattle.std.proofs.lemmas.List.{at_drop_more}
+use Rattle.std.proofs.lemmas.List.{at_drop_more, drop_all, map-set}
 use Rattle.boxes.specs.Boxes.{Ends, nought}
-use Rattle.boxes.specs.Views.{sides_of}
+use Rattle.boxes.specs.Views.{ends_of, sides_of}
 use Rattle.boxes.specs.declared.region.Region.{Region}
+use Rattle.boxes.specs.declared.side.Side.{Side}
 use Rattle.ranges.specs.declared.row.Row.{Row}
 use Rattle.ranges.specs.Kind.{Keeper, Kind}
 use Rattle.records.specs.declared.instruction.Instruction.{Instruction}
@@ -18,17 +20,32 @@ use Rattle.jobs.specs.Registers.{Before, no_instruction}
 use Rattle.cutters.specs.Cutting.{and_then}
 use Rattle.forward_backward.specs.Operands.{Earlier, aimed, narrowed, placed}
 use Rattle.forward_backward.specs.Backward.{KnobOf, State, backward, beside, box_of, common, side_cut, turned}
-use Rattle.forward_backward.specs.Told.{Left, TurnedTo}
+use Rattle.forward_backward.specs.Told.{Left, TurnedTo, boxed}
 
--- an answer gives back what is left
+-- an answer gives back what is left, and what is left gives the answer
+pub left_none : (o : Option (List Row)) (rows : List Row) → Left o None rows → o ≡ None
+left_none o rows h = grind (arith, common_steps)
+
 pub left_some : (o : Option (List Row)) (rows : List Row) → Left o (Some tt) rows → o ≡ Some rows
 left_some o rows h = grind (arith, common_steps)
+
+pub none_left : (o : Option (List Row)) (rows : List Row) → o ≡ None → Left o None rows
+none_left o rows e = rw e refl
+
+pub some_left : (o : Option (List Row)) (rows : List Row) → o ≡ Some rows → Left o (Some tt) rows
+some_left o rows e = rw e (refl, refl)
 
 pub turned_none : (o : Option State) (rows : List Row) → TurnedTo o None rows → o ≡ None
 turned_none o rows h = grind (arith, common_steps)
 
 pub turned_some : (o : Option State) (r : Region) (rows : List Row) → TurnedTo o (Some r) rows → o ≡ Some (record { rows = rows; box = sides_of r })
 turned_some o r rows h = grind (arith, common_steps)
+
+pub none_turned : (o : Option State) (rows : List Row) → o ≡ None → TurnedTo o None rows
+none_turned o rows e = rw e refl
+
+pub some_turned : (o : Option State) (r : Option Region) (rows : List Row) (box : List Ends) → boxed r ≡ Some box → o ≡ Some (record { rows = rows; box = box }) → TurnedTo o r rows
+some_turned o r rows box b e = rw e (b, refl)
 
 -- what an instruction may name, in two parts
 pub earlier : (knobs j : ℕ) (i : Instruction) → Before knobs j i → Earlier j i
@@ -71,7 +88,7 @@ side_cut_by z box P f g (Sqr a) = f (Sqr a)
 side_cut_by z box P f g (Min a b) = f (Min a b)
 side_cut_by z box P f g (Shr a b) = f (Shr a b)
 
-side_cut_long : (i : Instruction) (z : Ends) (box : List Ends) → AsLong box (side_cut i z box)
+pub side_cut_long : (i : Instruction) (z : Ends) (box : List Ends) → AsLong box (side_cut i z box)
 side_cut_long i z box = side_cut_by z box (λ _ o. AsLong box o) (λ _. refl) (λ m. placed_long box m (common (slice_index_or box m nought) z)) i
 
 beside_long : (box : List Ends) (o : Option (List Row)) (p : Option (List Ends)) → AsLong box p → AsLong box (box_of (beside o p))
@@ -96,3 +113,10 @@ module _ (k : Kind) (n : Keeper) where
   pub aimed_turn : (targets : List Target) (i : ℕ) (rows : List Row) → i < length targets →
       aimed k n (drop i targets) rows ≡ and_then (narrowed k n rows (get_or targets i no_target).register (record { lo = (get_or targets i no_target).low; hi = (get_or targets i no_target).high })) (aimed k n (drop (i + 1) targets))
   aimed_turn targets i rows h = at_drop_more (λ ts. aimed k n ts rows) targets i no_target h
+
+  pub aimed_over : (targets : List Target) (i : ℕ) (rows : List Row) → length targets ≤ i → aimed k n (drop i targets) rows ≡ Some rows
+  aimed_over targets i rows h = ap (λ ts. aimed k n ts rows) (drop_all i targets h)
+
+-- the sides of a region with another one in one place
+pub set_side : (knobs : ℕ) (sides : List Side) (m : ℕ) (s : Side) → m < knobs → map ends_of (take knobs (slice_set sides m s)) ≡ slice_set (map ends_of (take knobs sides)) m (ends_of s)
+set_side knobs sides m s h = ap (map ends_of) (take-set-lt knobs sides m s h) ∙ map-set ends_of (take knobs sides) m s

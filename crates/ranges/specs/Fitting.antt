@@ -51,3 +51,7 @@ plain_no e n = plain_by e (λ p. p ≡ None) (λ o. absurd (n o)) (λ _. refl)
 -- a range with those ends is the answer
 pub plain_is : (l h l' h' : ℤ) → l ≡ l' → h ≡ h' → Ordered (record { lo = l'; hi = h' }) → Some (row_of (record { lo = l; hi = h })) ≡ plain (record { lo = l'; hi = h' })
 plain_is l h l' h' e f o = let y = plain_yes (record { lo = l'; hi = h' }) o in cc
+
+-- the same ends give the same answer
+pub plain_at : (l h l' h' : ℤ) → l ≡ l' → h ≡ h' → plain (record { lo = l; hi = h }) ≡ plain (record { lo = l'; hi = h' })
+plain_at l h l' h' e f = cc

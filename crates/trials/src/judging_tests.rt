@@ -13,7 +13,7 @@ use raster::raster::Raster;
 use std::test::Fail;
 
 /// One knob from 0 to 9; (knob - 3) squared within 0 to 4.
-const NEAR_THREE: &str =
+pub(crate) const NEAR_THREE: &str =
     "0000002f0101000100000009040100000000000000000000000003030001000000000502000000000001030000000000000004";
 
 /// One knob from 0 to 9; the knob times 4 within 6 to 7.

@@ -1,6 +1,7 @@
 //! Tests of the crates below on examples: job records that an independent program judged, records
 //! made by hand, bytes that are no record at all, answers of plain and raster ranges, what the targets
-//! of jobs say of boxes, and what cutters leave of them. The crate has no code of its own besides.
+//! of jobs say of boxes, what cutters leave of them, and how values print. The crate has no code of its
+//! own besides.
 #![tactic(auto)]
 
 #[cfg(test)]
@@ -21,6 +22,8 @@ mod kinds_tests;
 mod outside;
 #[cfg(test)]
 mod outside_judged;
+#[cfg(test)]
+mod printing_tests;
 #[cfg(test)]
 mod ranges_tests;
 #[cfg(test)]

@@ -1,5 +1,6 @@
 use Rattle.std.proofs.Common.{nat_eq, ◌≡◌, Bool, true, false, sym, ◌∙◌, subst, arith, rules, Decides}
 use Rattle.std.proofs.lemmas.Iterator.{YieldsList-from_slice, YieldsList-from_zip, cases_from_all}
+use Rattle.std.proofs.lemmas.Grind.{elements}
 use borrow.Author.Tests.{tests}
 use Rattle.tables.specs.Tables.{entries}
 use Rattle.boxes.specs.Boxes.{Part, nested}
@@ -19,7 +20,7 @@ returns-then-knobs c =
     let b = c.args.other.now in
     let told = pairs_nested (entries a.sides) (entries b.sides) c.all.result (omega (arith, knobs_long a, knobs_long b)) (
     cases_from_all c.all.new.self _ _ (PairCovers true) (PairCovers false) c.all.ensures.ran
-    (YieldsList-from_zip (YieldsList-from_slice (entries a.sides) cc) (YieldsList-from_slice (entries b.sides) cc))
+    (YieldsList-from_zip (YieldsList-from_slice (entries a.sides) (grind (arith, elements))) (YieldsList-from_slice (entries b.sides) (grind (arith, elements))))
     (λ x q k. search (rules, tests)) (λ x q k. search (rules, tests))
     ) in
     record { value = told; decides = decided a b c.all.result told }
